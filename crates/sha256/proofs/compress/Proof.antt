@@ -1,0 +1,19 @@
+-- `compress` meets its definition. Assumes nothing.
+use Rattle.sha256.specs.Sha256.{compress}
+use borrow.Author.Needs.{needs}
+use Rattle.sha256.proofs.compress.Statement.{statement}
+use Rattle.sha256.proofs.compress.Tie as tie
+
+returns : tie.Need-returns
+unfolding compress
+returns c = cc
+
+pub compress-spec : {M : Type 1} → statement M
+compress-spec =
+    tie.close
+    (tie.spec
+    (λ c κs. search needs)
+    (λ c κs. search needs)
+    (λ c κs. search needs)
+    (λ c κs. search needs)
+    returns)
