@@ -1,0 +1,91 @@
+// The machine numbers of document 01: do they fit, and is a frame insecure?
+
+ghost use mathlib.Core.Path.{_≡_};
+ghost use Rattle.machine.specs.Machine.{Says, Fits, among, insecure};
+
+// F, s, n, m, k: frames, first secure frame, secure pages, first monitor frame, monitor frames.
+pub struct Machine {
+    pub frames: u32,
+    pub secure: u32,
+    pub pages: u32,
+    pub monitor: u32,
+    pub monitors: u32,
+}
+
+pub const FRAME_WORDS: usize = 1024;
+
+pub const HEADER_WORDS: usize = 32;
+
+pub const RECORD_WORDS: usize = 32;
+
+const MOST_FRAMES: u32 = 4096;
+
+const MOST_PAGES: u32 = 256;
+
+// Do the numbers keep the rules? (A sum is made only where it cannot wrap.)
+pub fn fits(b: Machine) -> bool
+    ensures { λ r. ⌜ Says r (Fits b) ⌝ }
+{
+    let frames = b.frames;
+    let secure = b.secure;
+    let pages = b.pages;
+    let monitor = b.monitor;
+    let monitors = b.monitors;
+    if frames < 1 {
+        return false;
+    }
+    if MOST_FRAMES < frames {
+        return false;
+    }
+    if pages < 1 {
+        return false;
+    }
+    if MOST_PAGES < pages {
+        return false;
+    }
+    if monitors < 1 {
+        return false;
+    }
+    if frames < pages {
+        return false;
+    }
+    if frames - pages < secure {
+        return false;
+    }
+    if frames < monitors {
+        return false;
+    }
+    if frames - monitors < monitor {
+        return false;
+    }
+    if secure + pages <= monitor {
+        return true;
+    }
+    if monitor + monitors <= secure {
+        return true;
+    }
+    false
+}
+
+// Is f one of the `count` frames from `first` on?
+fn is_among(first: u32, count: u32, f: u32) -> bool
+    ensures { λ r. ⌜ r ≡ among first count f ⌝ }
+{
+    if f < first {
+        return false;
+    }
+    f - first < count
+}
+
+// Is frame f insecure? A frame of the monitor's is not.
+pub fn insecure(b: Machine, f: u32) -> bool
+    ensures { λ r. ⌜ r ≡ insecure b f ⌝ }
+{
+    if b.frames <= f {
+        return false;
+    }
+    if is_among(b.secure, b.pages, f) {
+        return false;
+    }
+    !is_among(b.monitor, b.monitors, f)
+}
