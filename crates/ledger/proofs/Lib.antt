@@ -1,0 +1,7 @@
+pub mod Views
+pub mod Effects
+pub mod Bits
+pub mod Sums
+pub mod Map
+pub mod Puts
+pub mod Records

@@ -1,0 +1,18 @@
+use Prim.Native.Nat.{_+_, _/_, _%_}
+use borrow.Author.Needs.{needs}
+use Rattle.ledger.specs.Ledger.{mapStart, bitOff, mapOff, header}
+use Rattle.ledger.proofs.Puts.{changed}
+use Rattle.ledger.proofs.map_off.Statement.{statement}
+use Rattle.ledger.proofs.map_off.Tie as tie
+
+returns : tie.Need-returns
+unfolding mapOff header
+returns c =
+    let s = c .before .before .before .before .before .before .before .before in
+    changed (s .args .led .now) (mapStart + s .args .p / 32) (λ w. bitOff w (s .args .p % 32))
+    (c .before .before .before .before .before .read .ensures)
+    (c .before .before .before .before .bit-off .ensures)
+    (c .before .before .write .ensures)
+
+pub map-off-spec : {M : Type 1} → statement M
+map-off-spec = tie.close (tie.spec (λ c. search needs) (λ c κs. search needs) (λ c κs. search needs) (λ c κs. search needs) (λ c. search needs) returns)
