@@ -1,0 +1,187 @@
+-- The walk from a first-level page in terms of the memory's view, and what is found, filled and translated by it. Assumes nothing.
+use Prim.Native.Nat.{ℕ, zero, suc, _+_, _%_, _^_, _<_}
+use mathlib.Core.Path.{_≡_, refl, sym, ap, _∙_}
+use mathlib.Core.Bool.{Bool, true, false, not, _&&_}
+use mathlib.Core.List.{List}
+use native.Mathlib.Numerals.{add-one}
+use native.Mathlib.Omega.{arith}
+use lib.Dec.{eqb, leb}
+use lib.ListN.{length}
+use borrow.Author.Tests.{eq-eqb, ne-eqb, lt-leb, leb-false, eqb-true, eqb-false, not-false}
+use Rattle.mapping.specs.Mapping.{indexOf, slotOf, rightsOf, writes}
+use Rattle.memory.specs.Memory.{frame, putWord}
+use Rattle.memory.proofs.Frames.{length-putWord}
+use Rattle.walk.specs.declared.Walked.{Walked}
+use Rattle.walk.specs.declared.Walked.the-variants.{At, NoTable}
+use Rattle.walk.specs.declared.Translated.{Translated}
+use Rattle.walk.specs.declared.Translated.the-variants.{Yes, No}
+use Rattle.walk.specs.Walk.{pick, walk, passed, translate, filled, slotWord, mapped, linked, takenCode, addrCode, indexCode}
+
+-- the address has a table, and its slot there holds v
+pub record Holds (M : List ℕ) (s first va v : ℕ) : Type 0 where
+  pub table : ℕ
+  pub named : frame M (s + first) (indexOf va) ≡ table + 1
+  pub slot : frame M (s + table) (slotOf va) ≡ v
+
+-- ---- the walk: the first-level word is 0, or names a table
+module _ (M : List ℕ) (s first va : ℕ) where
+  pub walk-nothing : frame M (s + first) (indexOf va) ≡ 0 → walk 2 M s first va ≡ NoTable
+  unfolding walk
+  walk-nothing e = rw e
+
+  pub walk-table : (T : ℕ) → frame M (s + first) (indexOf va) ≡ T + 1 → walk 2 M s first va ≡ At T (frame M (s + T) (slotOf va))
+  unfolding walk
+  walk-table T e = rw (e ∙ add-one T)
+
+  -- by the first-level word
+  by-word : {C : Type 0} → (frame M (s + first) (indexOf va) ≡ 0 → C) → ((T : ℕ) → frame M (s + first) (indexOf va) ≡ T + 1 → C) → C
+  by-word {C} none some = go (frame M (s + first) (indexOf va)) refl
+    where
+      go : (w : ℕ) → frame M (s + first) (indexOf va) ≡ w → C
+      go zero e = none e
+      go (suc T) e = some T (e ∙ sym (add-one T))
+
+  pub walked-nothing : walk 2 M s first va ≡ NoTable → frame M (s + first) (indexOf va) ≡ 0
+  walked-nothing e = by-word (λ z. z) (λ T t. cc (walk-table T t))
+
+  pub walked-at : {T v : ℕ} → walk 2 M s first va ≡ At T v → (frame M (s + first) (indexOf va) ≡ T + 1) × (frame M (s + T) (slotOf va) ≡ v)
+  walked-at e = by-word (λ z. (cc (walk-nothing z), cc (walk-nothing z))) (λ U t. (cc (walk-table U t), cc (walk-table U t)))
+
+  pub walk-holds : {v : ℕ} (h : Holds M s first va v) → walk 2 M s first va ≡ At (h .table) v
+  walk-holds h = walk-table (h .table) (h .named) ∙ ap (At (h .table)) (h .slot)
+
+-- two memories that agree on the first-level word and on the slot's word
+pub walk-same : (M N : List ℕ) (s first va : ℕ) → frame N (s + first) (indexOf va) ≡ frame M (s + first) (indexOf va)
+    → ((T : ℕ) → frame M (s + first) (indexOf va) ≡ T + 1 → frame N (s + T) (slotOf va) ≡ frame M (s + T) (slotOf va))
+    → walk 2 N s first va ≡ walk 2 M s first va
+walk-same M N s first va e h =
+    by-word M s first va (λ z. walk-nothing N s first va (e ∙ z) ∙ sym (walk-nothing M s first va z))
+    (λ T t. walk-table N s first va T (e ∙ t) ∙ ap (At T) (h T t) ∙ sym (walk-table M s first va T t))
+
+-- ---- a slot filled
+module _ (M : List ℕ) (s first va v : ℕ) where
+  pub filled-nothing : walk 2 M s first va ≡ NoTable → filled M s first va v ≡ M
+  unfolding filled
+  filled-nothing e = rw e
+
+  pub filled-at : {T w : ℕ} → walk 2 M s first va ≡ At T w → filled M s first va v ≡ putWord M (s + T) (slotOf va) v
+  unfolding filled
+  filled-at e = rw e
+
+  pub filled-table : (T : ℕ) → frame M (s + first) (indexOf va) ≡ T + 1 → filled M s first va v ≡ putWord M (s + T) (slotOf va) v
+  filled-table T e = filled-at (walk-table M s first va T e)
+
+  pub length-filled : length (filled M s first va v) ≡ length M
+  length-filled =
+      by-word M s first va (λ z. ap length (filled-nothing (walk-nothing M s first va z)))
+      (λ T t. ap length (filled-table T t) ∙ length-putWord M (s + T) (slotOf va) v)
+
+module _ (M : List ℕ) (s first map p : ℕ) where
+  pub mapped-nothing : walk 2 M s first map ≡ NoTable → mapped M s first map p ≡ M
+  unfolding mapped
+  mapped-nothing = filled-nothing M s first map (slotWord (s + p) (rightsOf map))
+
+  pub mapped-at : {T w : ℕ} → walk 2 M s first map ≡ At T w
+      → mapped M s first map p ≡ putWord M (s + T) (slotOf map) (slotWord (s + p) (rightsOf map))
+  unfolding mapped
+  mapped-at = filled-at M s first map (slotWord (s + p) (rightsOf map))
+
+  pub mapped-table : (T : ℕ) → frame M (s + first) (indexOf map) ≡ T + 1
+      → mapped M s first map p ≡ putWord M (s + T) (slotOf map) (slotWord (s + p) (rightsOf map))
+  unfolding mapped
+  mapped-table = filled-table M s first map (slotWord (s + p) (rightsOf map))
+
+  pub length-mapped : length (mapped M s first map p) ≡ length M
+  unfolding mapped
+  length-mapped = length-filled M s first map (slotWord (s + p) (rightsOf map))
+
+-- ---- a table linked
+module _ (M : List ℕ) (s f i p : ℕ) where
+  pub linked-is : linked M s f i p ≡ putWord M (s + f) i (p + 1)
+  unfolding linked
+  linked-is = refl
+
+  pub length-linked : length (linked M s f i p) ≡ length M
+  unfolding linked
+  length-linked = length-putWord M (s + f) i (p + 1)
+
+-- ---- what passes
+pick-zero : (t : Bool) (c d : ℕ) → pick t (suc c) d ≡ 0 → (t ≡ false) × (d ≡ 0)
+pick-zero true c d e = absurd (omega arith)
+pick-zero false c d e = (refl, e)
+
+zero-pick : (t : Bool) (c : ℕ) → pick t 0 (suc c) ≡ 0 → t ≡ true
+zero-pick true c e = refl
+zero-pick false c e = absurd (omega arith)
+
+module _ (M : List ℕ) (s first : ℕ) where
+  pub passes-addr : (va : ℕ) → addrCode M s first va ≡ 0 → Holds M s first va 0
+  unfolding addrCode
+  passes-addr va e =
+      by-word M s first va (λ z. absurd (no (walk-nothing M s first va z)))
+      (λ T t. record { table = T; named = t; slot = empty (walk-table M s first va T t) })
+    where
+      no : walk 2 M s first va ≡ NoTable → ⊥
+      no w = let z : _≡_ {A = ℕ} 8 0 = ap takenCode (sym w) ∙ e in omega arith
+
+      empty : {T v : ℕ} → walk 2 M s first va ≡ At T v → v ≡ 0
+      empty {v} w = eqb-true v 0 (zero-pick (eqb v 0) 6 (ap takenCode (sym w) ∙ e))
+
+  pub passes-index : (i : ℕ) → indexCode M s first i ≡ 0 → (i < 256) × (frame M (s + first) i ≡ 0)
+  unfolding indexCode
+  passes-index i e =
+      let x = pick-zero (leb 256 i) 20 (pick (eqb (frame M (s + first) i) 0) 0 7) e in
+      (leb-false 256 i (x .0), eqb-true (frame M (s + first) i) 0 (zero-pick (eqb (frame M (s + first) i) 0) 6 (x .1)))
+
+-- ---- what is translated
+pub record Translates (M : List ℕ) (s first va : ℕ) (write : Bool) (v : ℕ) : Type 0 where
+  pub aligned : va % 4 ≡ 0
+  pub low : va < 2 ^ 30
+  pub holds : Holds M s first va v
+  pub taken : v ≡ 0 → ⊥
+  pub right : write ≡ true → writes v ≡ true
+
+pick-yes : (t : Bool) {x : Translated} {v : ℕ} → pick t No x ≡ Yes v → (t ≡ false) × (x ≡ Yes v)
+pick-yes true e = absurd (let z : _≡_ {A = ℕ} 0 1 = cc in omega arith)
+pick-yes false e = (refl, e)
+
+writes-too : (write w : Bool) → (write && not w) ≡ false → write ≡ true → w ≡ true
+writes-too true w e t = not-false w e
+writes-too false w e t = absurd (let z : _≡_ {A = ℕ} 0 1 = cc in omega arith)
+
+module _ (M : List ℕ) (s first va : ℕ) (write : Bool) where
+  pub through : va % 4 ≡ 0 → va < 2 ^ 30 → translate M s first va write ≡ passed write (walk 2 M s first va)
+  unfolding translate
+  through a l = rw (eq-eqb (va % 4) 0 a, lt-leb (2 ^ 30) va l)
+
+  pub translated : {v : ℕ} → translate M s first va write ≡ Yes v → Translates M s first va write v
+  unfolding translate
+  translated {v} e =
+      let x = pick-yes (not (eqb (va % 4) 0)) e in
+      let y = pick-yes (leb (2 ^ 30) va) (x .1) in
+      go (walk 2 M s first va) refl (eqb-true (va % 4) 0 (not-false (eqb (va % 4) 0) (x .0))) (leb-false (2 ^ 30) va (y .0)) (y .1)
+    where
+      go : (W : Walked) → walk 2 M s first va ≡ W → va % 4 ≡ 0 → va < 2 ^ 30 → passed write W ≡ Yes v → Translates M s first va write v
+      go NoTable w a l p = absurd (let z : _≡_ {A = ℕ} 0 1 = cc in omega arith)
+      go (At T u) w a l p =
+          let x = pick-yes (eqb u 0) p in
+          let y = pick-yes (write && not (writes u)) (x .1) in
+          let e : u ≡ v = cc in
+          let h = walked-at M s first va w in
+          record {
+            aligned = a;
+            low = l;
+            holds = record { table = T; named = h .0; slot = h .1 ∙ e };
+            taken = λ z. eqb-false u 0 (x .0) (e ∙ z);
+            right = λ t. ap writes (sym e) ∙ writes-too write (writes u) (y .0) t;
+          }
+
+  pub translates : {v : ℕ} → Translates M s first va write v → translate M s first va write ≡ Yes v
+  translates {v} h =
+      through (h .aligned) (h .low)
+      ∙ ap (passed write) (walk-holds M s first va (h .holds))
+      ∙ rw (ne-eqb v 0 (h .taken)) (go write (h .right))
+    where
+      go : (r : Bool) → (r ≡ true → writes v ≡ true) → pick (r && not (writes v)) No (Yes v) ≡ Yes v
+      go true f = rw (f refl)
+      go false f = refl

@@ -1,0 +1,127 @@
+// The walk of the page tables, and what an access and a mapping call do with it.
+
+use mapping::Mapping;
+ghost use mathlib.Core.Path.{_≡_};
+ghost use Prim.Native.Nat.{_+_, _<_, _^_};
+ghost use Rattle.walk.specs.Walk.{walk, translate, filled, slotWord, mapped, linked, addrCode, indexCode};
+
+// The table that has the address's slot, and what the slot holds.
+pub enum Walked {
+    At(u32, u32),
+    NoTable,
+}
+
+// The slot's word, or a no.
+pub enum Translated {
+    Yes(u32),
+    No,
+}
+
+// The frame of secure page p.
+fn frame_of(s: u32, p: u32) -> usize
+    ensures { λ r. ⌜ r ≡ s + p ⌝ }
+{
+    (s as usize) + (p as usize)
+}
+
+// From the table in page p, at its level: 2 for a first-level page, 1 for a second-level table. s is the first secure frame.
+pub fn walk(mem: &[u32], s: u32, p: u32, va: u32, level: u32) -> Walked
+    ensures { λ r. ⌜ r ≡ walk level (now (mem .entry)) s p va ⌝ }
+{
+    if level == 0 {
+        return Walked::NoTable;
+    }
+    if level == 1 {
+        let v = memory::word(mem, frame_of(s, p), Mapping(va).slot() as usize);
+        return Walked::At(p, v);
+    }
+    let e = memory::word(mem, frame_of(s, p), Mapping(va).index() as usize);
+    if e == 0 {
+        return Walked::NoTable;
+    }
+    walk(mem, s, e - 1, va, level - 1)
+}
+
+// May the enclave whose first-level page is `first` load from, or store to, address va?
+pub fn translate(mem: &[u32], s: u32, first: u32, va: u32, write: bool) -> Translated
+    ensures { λ r. ⌜ r ≡ translate (now (mem .entry)) s first va write ⌝ }
+{
+    if va % 4 != 0 {
+        return Translated::No;
+    }
+    if 1073741824 <= va {
+        return Translated::No;
+    }
+    let Walked::At(_, v) = walk(mem, s, first, va, 2) else {
+        return Translated::No;
+    };
+    if v == 0 {
+        return Translated::No;
+    }
+    if write {
+        if !Mapping(v).writes() {
+            return Translated::No;
+        }
+    }
+    Translated::Yes(v)
+}
+
+// The slot of address va holds v, where it has a table.
+pub fn fill(mem: &mut [u32], s: u32, first: u32, va: u32, v: u32)
+    ensures { λ r. ⌜ now (mem .exit) ≡ filled (now (mem .entry)) s first va v ⌝ }
+{
+    let Walked::At(p, _) = walk(mem, s, first, va, 2) else {
+        return;
+    };
+    memory::put_word(mem, frame_of(s, p), Mapping(va).slot() as usize, v);
+}
+
+// The slot that names frame f with these rights.
+pub fn slot_word(f: u32, rights: u32) -> u32
+    requires { ⌜ (f < 2 ^ 20) × (rights < 8) ⌝ }
+    ensures { λ r. ⌜ r ≡ slotWord f rights ⌝ }
+{
+    f * 4096 + rights
+}
+
+// The slot of the mapping word names secure page p.
+pub fn map_page(mem: &mut [u32], s: u32, first: u32, map: Mapping, p: u32)
+    requires { ⌜ s + p < 2 ^ 20 ⌝ }
+    ensures { λ r. ⌜ now (mem .exit) ≡ mapped (now (mem .entry)) s first (map .0) p ⌝ }
+{
+    fill(mem, s, first, map.0, slot_word(s + p, map.rights()));
+}
+
+// First-level slot i of first-level page f names table p.
+pub fn link(mem: &mut [u32], s: u32, f: u32, i: u32, p: u32)
+    requires { ⌜ p + 1 < 2 ^ 32 ⌝ }
+    ensures { λ r. ⌜ now (mem .exit) ≡ linked (now (mem .entry)) s f i p ⌝ }
+{
+    memory::put_word(mem, frame_of(s, f), i as usize, p + 1);
+}
+
+// ADDR: no table 8, slot taken 7.
+pub fn addr_code(mem: &[u32], s: u32, first: u32, map: Mapping) -> u32
+    ensures { λ r. ⌜ r ≡ addrCode (now (mem .entry)) s first (map .0) ⌝ }
+{
+    let Walked::At(_, v) = walk(mem, s, first, map.0, 2) else {
+        return 8;
+    };
+    if v == 0 {
+        return 0;
+    }
+    7
+}
+
+// An index of 256 or more 21, taken 7.
+pub fn index_code(mem: &[u32], s: u32, f: u32, i: u32) -> u32
+    ensures { λ r. ⌜ r ≡ indexCode (now (mem .entry)) s f i ⌝ }
+{
+    if 256 <= i {
+        return 21;
+    }
+    if memory::word(mem, frame_of(s, f), i as usize) == 0 {
+        return 0;
+    }
+    7
+}
