@@ -1,0 +1,71 @@
+-- A word of the free map, summed bit by bit. Assumes nothing.
+use Prim.Native.Nat.{ℕ, zero, suc, _+_, _*_, _%_, _^_, _≤_, _<_}
+use mathlib.Core.Path.{_≡_, refl}
+use mathlib.Core.Bool.{Bool, true, false}
+use native.Mathlib.Nat.{pow-suc, one-mul, zero-mul, lt-of-lt-of-le}
+use native.Mathlib.Numerals.{add-one}
+use native.Mathlib.Omega.{arith}
+use lib.Dec.{eqb, ltb}
+use lib.Pow.{pow-mono, shl-exact}
+use borrow.Author.Tests.{eq-eqb, ne-eqb, lt-ltb, le-ltb}
+use Rattle.ledger.specs.Ledger.{sumBelow}
+use Rattle.walk.specs.Walk.{pick}
+use Rattle.accept.specs.Accept.{Words, isFree, mapWord}
+
+module _ (n : ℕ) (w : Words) (p : ℕ) where
+  pub past-pages : n ≤ p → 0 ≡ isFree n w p
+  unfolding isFree
+  past-pages l = simp (le-ltb p n l)
+
+  pub in-use : p < n → (w p 0 ≡ 0 → ⊥) → 0 ≡ isFree n w p
+  unfolding isFree
+  in-use l u = simp (lt-ltb p n l, ne-eqb (w p 0) 0 u)
+
+  pub is-free : p < n → w p 0 ≡ 0 → 1 ≡ isFree n w p
+  unfolding isFree
+  is-free l e = simp (lt-ltb p n l, eq-eqb (w p 0) 0 e)
+
+  free-le : isFree n w p ≤ 1
+  unfolding isFree
+  free-le = bit-le (ltb p n) (eqb (w p 0) 0)
+    where
+      bit-le : (t q : Bool) → pick t (pick q 1 0) 0 ≤ 1
+      bit-le true true = omega arith
+      bit-le true false = omega arith
+      bit-le false q = omega arith
+
+-- the i lowest bits of word j
+unfoldable pub lowBits : ℕ → Words → ℕ → ℕ → ℕ
+lowBits n w j i = sumBelow i (λ k. isFree n w (32 * j + k) * 2 ^ k)
+
+one-bit : (f k : ℕ) → f ≤ 1 → f * k ≤ k
+one-bit zero k l = rw (zero-mul k) (omega arith)
+one-bit (suc zero) k l = rw (one-mul k) (omega arith)
+one-bit (suc (suc f)) k l = absurd (omega arith)
+
+module _ (n : ℕ) (w : Words) (j : ℕ) where
+  pub low-none : 0 ≡ lowBits n w j 0
+  unfolding lowBits sumBelow
+  low-none = refl
+
+  pub low-all : lowBits n w j 32 ≡ mapWord n w j
+  unfolding lowBits mapWord
+  low-all = refl
+
+  low-suc : (i : ℕ) → lowBits n w j (suc i) ≡ lowBits n w j i + isFree n w (32 * j + i) * 2 ^ i
+  unfolding lowBits sumBelow
+  low-suc i = refl
+
+  low-fits : (i : ℕ) → lowBits n w j i < 2 ^ i
+  low-fits zero = omega (arith, low-none)
+  low-fits (suc i) = omega (arith, low-suc i, low-fits i, pow-suc 2 i, one-bit (isFree n w (32 * j + i)) (2 ^ i) (free-le n w (32 * j + i)))
+
+  -- one bit more, as the code adds it
+  module _ {i r sum : ℕ} (l : i < 32) (e : r ≡ isFree n w (32 * j + i)) (s : sum ≡ lowBits n w j i) where
+    pub low-more : sum + (r * 2 ^ i) % 4294967296 ≡ lowBits n w j (i + 1)
+    low-more =
+        let x : (r * 2 ^ i) % 4294967296 ≡ r * 2 ^ i = shl-exact 1 i 32 (omega (arith, free-le n w (32 * j + i))) (omega arith) in
+        rw (add-one i) (rw x (rw (low-suc i) (rw e (rw s refl))))
+
+    pub low-room : sum + (r * 2 ^ i) % 4294967296 < 4294967296
+    low-room = rw low-more (lt-of-lt-of-le (low-fits (i + 1)) (pow-mono {i = i + 1} {j = 32} (omega arith)))

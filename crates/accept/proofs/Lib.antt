@@ -1,0 +1,7 @@
+pub mod Answers
+pub mod Slots
+pub mod Sums
+pub mod Words
+pub mod FreeMap
+pub mod Owner
+pub mod Parts

@@ -1,0 +1,53 @@
+-- Each space passed has the counts that the two passes over the pages gave.
+use Prim.Native.Nat.{ℕ, _≤_, _<_, _-_}
+use mathlib.Core.Path.{_≡_, sym}
+use native.Mathlib.Omega.{arith}
+use borrow.Author.Count.{below-more}
+use Rattle.machine.proofs.Laws.{passed, refused}
+use Rattle.ledger.specs.Ledger.{space, rec, sumBelow}
+use Rattle.accept.specs.Accept.{counted, measured, tally}
+use Rattle.accept.specs.Checks.{Count}
+use Rattle.accept.proofs.Sums.{count-same}
+use Rattle.accept.proofs.counts.counts_ok.Statement.{statement}
+use Rattle.accept.proofs.counts.counts_ok.Tie as tie
+
+abbrev Inv-loop : tie.InvT-loop
+Inv-loop n led owned blocks a₀ a =
+    (a ≤ n)
+    × ((x : ℕ) → x < a → rec led x 0 ≡ space
+    → Count n (rec led) x (sumBelow n (tally counted (rec led) x)) (sumBelow n (tally measured (rec led) x)))
+
+abbrev μ-loop : tie.MeasureT-loop
+μ-loop n led owned blocks a₀ a = n - a
+
+loop-holds : tie.Need-loop-holds Inv-loop μ-loop
+loop-holds c = (omega arith, λ x l. absurd (omega arith))
+
+returns : tie.Need-returns Inv-loop μ-loop
+returns c all =
+    let l = c .before .before .before in
+    let o = l .before .before .tallies .ensures .sums (l .loop .a) (omega arith) in
+    let k = l .before .tallies2 .ensures .sums (l .loop .a) (omega arith) in
+    refused (c .before .count-ok .result) (c .before .count-ok .ensures) (c .if1 .taken)
+    (λ e. count-same (sym o) (sym k) (all (l .loop .a) (omega arith) e))
+
+loop-again : tie.Need-loop-again Inv-loop μ-loop
+loop-again c =
+    let l = c .before .before .before in
+    let o = l .before .before .tallies .ensures .sums (l .loop .a) (omega arith) in
+    let k = l .before .tallies2 .ensures .sums (l .loop .a) (omega arith) in (
+      omega arith,
+      below-more _ _ (l .loop .inv .1)
+          (λ e. count-same o k (passed (c .before .count-ok .result) (c .before .count-ok .ensures) (c .if1 .left) e)),
+    )
+
+returns-2 : tie.Need-returns-2 Inv-loop μ-loop
+returns-2 c a l = c .before .loop .inv .1 a (omega arith)
+
+pub counts-ok-spec : {M : Type 1} → statement M
+counts-ok-spec =
+    tie.close
+    (tie.spec Inv-loop μ-loop (λ c κs. omega arith) (λ c κs. omega arith) loop-holds (λ c. omega arith) (λ c. omega arith)
+    (λ c. omega arith)
+    (λ c. omega arith) (λ c. omega arith) (λ c. omega arith) (λ c κs. omega arith) returns (λ c. omega arith) (λ c. omega arith) loop-again
+    returns-2)

@@ -1,0 +1,127 @@
+-- What the parts of the acceptance check decide. A reader need not believe these: the check's own contract is `Says r (Accepted b M L)`,
+-- and proofs/Parts.antt shows that the parts together are just that. Assumes nothing.
+use Prim.Native.Nat.{ℕ, zero, suc, _+_, _-_, _*_, _≤_, _<_}
+use mathlib.Core.Path.{_≡_}
+use mathlib.Core.Bool.{Bool, true, false}
+use mathlib.Core.List.{List}
+use lib.ListN.{length, getD}
+use Rattle.machine.specs.declared.Machine.{Machine}
+use Rattle.machine.specs.Machine.{frameWords, recordWords, Lent}
+use Rattle.mapping.specs.Mapping.{indexOf, slotOf, rightsOf, wellFormed}
+use Rattle.ledger.specs.Ledger.{space, firstLevel, secondLevel, dataPage, building, stopped, sumBelow}
+use Rattle.walk.specs.Walk.{slotWord}
+use Rattle.accept.specs.Accept.{Words, Zeros, SpaceRec, ThreadRec, Is, mappingOf, SlotOk, tally, counted, measured}
+
+-- what is lent fits, and p is one of the pages
+pub record Here (b : Machine) (M L : List ℕ) (p : ℕ) : Type 0 where
+  pub lent : Lent b M L
+  pub below : p < b .pages
+
+-- ---- a page, by its type: its record, its owner, its memory, and its part of the tables
+abbrev pub Wiped : Machine → Words → ℕ → Type 0
+Wiped b m p = Zeros (m (b .secure + p)) 0 frameWords
+
+pub record FreePage (b : Machine) (w m : Words) (p : ℕ) : Type 0 where
+  pub rest : Zeros (w p) 1 recordWords
+  pub wiped : Wiped b m p
+
+pub record SpacePage (b : Machine) (w m : Words) (p : ℕ) : Type 0 where
+  pub layout : SpaceRec (b .pages) p (w p)
+  pub wiped : Wiped b m p
+  pub first : (w p 3 ≡ stopped → ⊥) → Is b w p firstLevel (w p 2)
+
+-- page p's owner is an address space, and its words from lo on are zero
+pub record Owned (b : Machine) (w : Words) (lo p : ℕ) : Type 0 where
+  pub owner : w p 1 < b .pages
+  pub is-space : w (w p 1) 0 ≡ space
+  pub rest : Zeros (w p) lo recordWords
+
+pub record ThreadRules (w : Words) (p : ℕ) : Type 0 where
+  pub layout : ThreadRec (w p)
+  pub idle : w p 3 ≡ 0 → Zeros (w p) 4 21
+  pub calm : w (w p 1) 3 ≡ building → w p 3 ≡ 0
+
+pub record ThreadPage (b : Machine) (w m : Words) (p : ℕ) : Type 0 where
+  pub owned : Owned b w 21 p
+  pub rules : ThreadRules w p
+  pub wiped : Wiped b m p
+
+-- what slot i of a first-level page of a may hold
+pub record Names (b : Machine) (w : Words) (a i v : ℕ) : Type 0 where
+  pub table : (T : ℕ) → v ≡ T + 1 → Is b w a secondLevel T × (w T 2 ≡ i)
+
+-- a slot with rights r names frame f, that of a data page of a whose mapping word is address (i, j) and those rights
+pub record Inside (b : Machine) (w : Words) (a i j f r : ℕ) : Type 0 where
+  pub above : b .secure ≤ f
+  pub page : Is b w a dataPage (f - b .secure)
+  pub map : w (f - b .secure) 2 ≡ mappingOf i j r
+
+pub record FirstLinks (b : Machine) (w m : Words) (a p : ℕ) : Type 0 where
+  pub only : w a 2 ≡ p
+  pub names : (i : ℕ) → i < 256 → Names b w a i (m (b .secure + p) i)
+  pub rest : Zeros (m (b .secure + p)) 256 frameWords
+
+pub record SecondLinks (b : Machine) (w m : Words) (a p : ℕ) : Type 0 where
+  pub named : m (b .secure + w a 2) (w p 2) ≡ p + 1
+  pub slots : (j : ℕ) → j < frameWords → SlotOk b w a (w p 2) j (m (b .secure + p) j)
+
+-- data page d stands in the slot to which its mapping word leads from word 2 of a
+pub record Reached (b : Machine) (w m : Words) (a d : ℕ) : Type 0 where
+  pub table : ℕ
+  pub named : m (b .secure + w a 2) (indexOf (w d 2)) ≡ table + 1
+  pub slot : m (b .secure + table) (slotOf (w d 2)) ≡ slotWord (b .secure + d) (rightsOf (w d 2))
+
+-- page p's owner is not stopped
+abbrev pub Going : Words → ℕ → Type 0
+Going w p = w (w p 1) 3 ≡ stopped → ⊥
+
+pub record FirstPage (b : Machine) (w m : Words) (p : ℕ) : Type 0 where
+  pub owned : Owned b w 2 p
+  pub links : Going w p → FirstLinks b w m (w p 1) p
+
+pub record SecondPage (b : Machine) (w m : Words) (p : ℕ) : Type 0 where
+  pub owned : Owned b w 3 p
+  pub index : w p 2 < 256
+  pub links : Going w p → SecondLinks b w m (w p 1) p
+
+pub record DataPage (b : Machine) (w m : Words) (p : ℕ) : Type 0 where
+  pub owned : Owned b w 3 p
+  pub formed : wellFormed (w p 2) ≡ true
+  pub links : Going w p → Reached b w m (w p 1) p
+
+pub record SparePage (b : Machine) (w m : Words) (p : ℕ) : Type 0 where
+  pub owned : Owned b w 2 p
+  pub wiped : Wiped b m p
+
+-- page p, of type t
+unfoldable pub Page : Machine → Words → Words → ℕ → ℕ → Type 0
+Page b w m p zero = FreePage b w m p
+Page b w m p (suc zero) = SpacePage b w m p
+Page b w m p (suc (suc zero)) = ThreadPage b w m p
+Page b w m p (suc (suc (suc zero))) = FirstPage b w m p
+Page b w m p (suc (suc (suc (suc zero)))) = SecondPage b w m p
+Page b w m p (suc (suc (suc (suc (suc zero))))) = DataPage b w m p
+Page b w m p (suc (suc (suc (suc (suc (suc zero)))))) = SparePage b w m p
+Page b w m p (suc (suc (suc (suc (suc (suc (suc t))))))) = ⊥
+
+abbrev pub Pages : Machine → Words → Words → Type 0
+Pages b w m = (p : ℕ) → p < b .pages → Page b w m p (w p 0)
+
+-- ---- the counts of a space that owns so many other pages and has so many blocks to measure
+pub record Count (n : ℕ) (w : Words) (a owned blocks : ℕ) : Type 0 where
+  pub pages : w a 4 ≡ owned
+  pub exact : w a 3 ≡ building → w a 5 ≡ blocks
+  pub room : (w a 3 ≡ building → ⊥) → w a 5 ≤ 65 * n
+
+abbrev pub Counts : ℕ → Words → Type 0
+Counts n w = (a : ℕ) → a < n → w a 0 ≡ space → Count n w a (sumBelow n (tally counted w a)) (sumBelow n (tally measured w a))
+
+-- what is summed: blocks measured, or pages owned
+abbrev pub weight : Bool → ℕ → ℕ
+weight true = measured
+weight false = counted
+
+-- an array with the sum for each owner
+pub record Tallied (g : ℕ → ℕ) (w : Words) (n : ℕ) (c : List ℕ) : Type 0 where
+  pub size : length c ≡ 256
+  pub sums : (a : ℕ) → a < 256 → getD c a 0 ≡ sumBelow n (tally g w a)

@@ -1,0 +1,184 @@
+// The tables of a space that is not stopped, page by page: what a first-level page, a second-level table and a data page must hold.
+
+use ledger::mapping_word;
+use ledger::word;
+use machine::FRAME_WORDS;
+use machine::Machine;
+use machine::insecure;
+use memory::all_zero;
+use walk::slot_word;
+ghost use mathlib.Core.Path.{_≡_};
+ghost use Prim.Native.Nat.{ℕ, _+_, _*_, _<_, _≤_};
+ghost use lib.ListN.{length, getD};
+ghost use Rattle.machine.specs.Machine.{frameWords, Says};
+ghost use Rattle.ledger.specs.Ledger.{rec};
+ghost use Rattle.memory.specs.Memory.{frame, wordsOf};
+ghost use Rattle.accept.specs.Accept.{Is, SlotOk};
+ghost use Rattle.accept.specs.Checks.{Here, Names, Inside, FirstLinks, SecondLinks, Reached};
+
+// The words of secure page p.
+pub fn page_words(b: Machine, mem: &[u32], p: u32) -> &[u32]
+    requires { ⌜ frameWords * (b .secure + p) + frameWords ≤ length (now mem) ⌝ }
+    ensures { λ r. ⌜ now r ≡ wordsOf (now (mem .entry)) (b .secure + p) ⌝ }
+{
+    let start = FRAME_WORDS * ((b.secure as usize) + (p as usize));
+    let end = start + FRAME_WORDS;
+    &mem[start..end]
+}
+
+// Word k of secure page p.
+fn page_word(b: Machine, mem: &[u32], p: u32, k: u32) -> u32
+    ensures { λ r. ⌜ r ≡ frame (now (mem .entry)) (b .secure + p) k ⌝ }
+{
+    memory::word(mem, (b.secure as usize) + (p as usize), k as usize)
+}
+
+// Is q a page of type t that a owns?
+pub fn is_page(b: Machine, led: &[u32], a: u32, t: u32, q: u32) -> bool
+    ensures { λ r. ⌜ Says r (Is b (rec (now (led .entry))) a t q) ⌝ }
+{
+    if b.pages <= q {
+        return false;
+    }
+    if word(led, q, 0) != t {
+        return false;
+    }
+    if word(led, q, 1) != a {
+        return false;
+    }
+    true
+}
+
+// May slot i of a's first-level page hold v: zero, or page + 1 of a table of a's with index i?
+fn slot_names(b: Machine, led: &[u32], a: u32, i: u32, v: u32) -> bool
+    ensures { λ r. ⌜ Says r (Names b (rec (now (led .entry))) a i v) ⌝ }
+{
+    if v == 0 {
+        return true;
+    }
+    let t = v - 1;
+    if !is_page(b, led, a, 4, t) {
+        return false;
+    }
+    if word(led, t, 2) != i {
+        return false;
+    }
+    true
+}
+
+// May all 256 of them?
+fn slots_name(b: Machine, led: &[u32], a: u32, page: &[u32]) -> bool
+    requires { ⌜ length (now page) ≡ frameWords ⌝ }
+    ensures { λ r. ⌜ Says r ((i : ℕ) → i < 256 → Names b (rec (now (led .entry))) a i (getD (now (page .entry)) i 0)) ⌝ }
+{
+    let mut i: u32 = 0;
+    while i < 256 {
+        if !slot_names(b, led, a, i, page[i as usize]) {
+            return false;
+        }
+        i += 1;
+    }
+    true
+}
+
+// Is frame f that of a data page of a's whose mapping word is address (i, j) with these rights?
+fn inside(b: Machine, led: &[u32], a: u32, i: u32, j: u32, f: u32, rights: u32) -> bool
+    requires { ⌜ (i < 256) × (j < frameWords) × (rights < 8) ⌝ }
+    ensures { λ r. ⌜ Says r (Inside b (rec (now (led .entry))) a i j f rights) ⌝ }
+{
+    if f < b.secure {
+        return false;
+    }
+    let d = f - b.secure;
+    if !is_page(b, led, a, 5, d) {
+        return false;
+    }
+    if mapping_word(led, d).0 != i * 4194304 + j * 4096 + rights {
+        return false;
+    }
+    true
+}
+
+// May slot j of a's table with index i hold this: zero, an insecure frame without the execute right, or such a data page?
+fn slot_ok(b: Machine, led: &[u32], a: u32, i: u32, j: u32, held: u32) -> bool
+    requires { ⌜ (i < 256) × (j < frameWords) ⌝ }
+    ensures { λ r. ⌜ Says r (SlotOk b (rec (now (led .entry))) a i j held) ⌝ }
+{
+    if held == 0 {
+        return true;
+    }
+    let rights = held % 4096;
+    let f = held / 4096;
+    if 8 <= rights {
+        return false;
+    }
+    if rights % 2 != 1 {
+        return false;
+    }
+    if insecure(b, f) {
+        if 4 <= rights {
+            return false;
+        }
+        return true;
+    }
+    inside(b, led, a, i, j, f, rights)
+}
+
+// May all 1,024 of them?
+fn slots_ok(b: Machine, led: &[u32], a: u32, i: u32, page: &[u32]) -> bool
+    requires { ⌜ (i < 256) × (length (now page) ≡ frameWords) ⌝ }
+    ensures { λ r. ⌜ Says r ((j : ℕ) → j < frameWords → SlotOk b (rec (now (led .entry))) a i j (getD (now (page .entry)) j 0)) ⌝ }
+{
+    let mut j: u32 = 0;
+    while j < 1024 {
+        if !slot_ok(b, led, a, i, j, page[j as usize]) {
+            return false;
+        }
+        j += 1;
+    }
+    true
+}
+
+// Is p the first-level page that a names, and does it name a's tables?
+pub fn first_links(b: Machine, mem: &[u32], led: &[u32], a: u32, p: u32) -> bool
+    requires { ⌜ Here b (now mem) (now led) p ⌝ }
+    ensures { λ r. ⌜ Says r (FirstLinks b (rec (now (led .entry))) (frame (now (mem .entry))) a p) ⌝ }
+{
+    if word(led, a, 2) != p {
+        return false;
+    }
+    let page = page_words(b, mem, p);
+    if !slots_name(b, led, a, page) {
+        return false;
+    }
+    all_zero(page, 256)
+}
+
+// Does a's first-level page name table p, and are the table's slots as they should?
+pub fn second_links(b: Machine, mem: &[u32], led: &[u32], a: u32, p: u32) -> bool
+    requires { ⌜ Here b (now mem) (now led) p ⌝ }
+    requires { ⌜ rec (now led) p 2 < 256 ⌝ }
+    ensures { λ r. ⌜ Says r (SecondLinks b (rec (now (led .entry))) (frame (now (mem .entry))) a p) ⌝ }
+{
+    let i = word(led, p, 2);
+    if page_word(b, mem, word(led, a, 2), i) != p + 1 {
+        return false;
+    }
+    slots_ok(b, led, a, i, page_words(b, mem, p))
+}
+
+// Does the slot to which data page d's mapping word leads name it, with its rights?
+pub fn reached(b: Machine, mem: &[u32], led: &[u32], a: u32, d: u32) -> bool
+    requires { ⌜ Here b (now mem) (now led) d ⌝ }
+    ensures { λ r. ⌜ Says r (Reached b (rec (now (led .entry))) (frame (now (mem .entry))) a d) ⌝ }
+{
+    let map = mapping_word(led, d);
+    let v = page_word(b, mem, word(led, a, 2), map.index());
+    if v == 0 {
+        return false;
+    }
+    if page_word(b, mem, v - 1, map.slot()) != slot_word(b.secure + d, map.rights()) {
+        return false;
+    }
+    true
+}
