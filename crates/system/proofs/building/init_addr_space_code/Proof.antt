@@ -1,0 +1,18 @@
+use borrow.Author.Needs.{needs}
+use Rattle.answer.proofs.Checks.{either-of}
+use Rattle.system.specs.Calls.{initAddrSpaceCode}
+use Rattle.system.proofs.building.init_addr_space_code.Statement.{statement}
+use Rattle.system.proofs.building.init_addr_space_code.Tie as tie
+
+returns : tie.Need-returns
+unfolding initAddrSpaceCode
+returns c =
+    let x = c .before .before in
+    either-of (c .either2 .ensures) (x .before .before .before .refuse .ensures)
+    (either-of (c .before .either .ensures) (x .before .refuse2 .ensures) (x .two-free-code .ensures))
+
+pub init-addr-space-code-spec : {M : Type 1} → statement M
+init-addr-space-code-spec =
+    tie.close
+    (tie.spec
+    (λ c κs. search needs) (λ c κs. search needs) (λ c κs. search needs) (λ c κs. search needs) (λ c κs. search needs) returns)

@@ -1,0 +1,24 @@
+use borrow.Author.Needs.{needs}
+use Rattle.answer.proofs.Checks.{either-of, refuse-of, refuse-not}
+use Rattle.system.specs.Calls.{mapInsecureCode}
+use Rattle.system.proofs.Steps.{place-of}
+use Rattle.system.proofs.building.map_insecure_code.Statement.{statement}
+use Rattle.system.proofs.building.map_insecure_code.Tie as tie
+
+returns : tie.Need-returns
+unfolding mapInsecureCode
+returns c =
+    let x = c .before .before .before in
+    let y = x .before .before in
+    let z = y .before .before .before in
+    either-of (c .either3 .ensures) (y .before .before .building-code .ensures)
+    (either-of (c .before .either2 .ensures) (refuse-not 6 (y .refuse .ensures) (y .before .well-formed .ensures))
+    (either-of (c .before .before .either .ensures) (refuse-of 6 (x .refuse2 .ensures) (x .before .executes .ensures))
+    (place-of _ _ _ _ (z .place-code .ensures) (z .before .word .ensures))))
+
+pub map-insecure-code-spec : {M : Type 1} → statement M
+map-insecure-code-spec =
+    tie.close
+    (tie.spec
+    (λ c κs. search needs) (λ c κs. search needs) (λ c κs. search needs) (λ c κs. search needs) (λ c κs. search needs)
+    (λ c κs. search needs) (λ c κs. search needs) (λ c κs. search needs) (λ c κs. search needs) (λ c κs. search needs) returns)

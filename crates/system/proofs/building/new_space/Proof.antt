@@ -1,0 +1,16 @@
+use borrow.Author.Needs.{needs}
+use Rattle.system.proofs.Steps.{new-space-is}
+use Rattle.system.proofs.building.new_space.Statement.{statement}
+use Rattle.system.proofs.building.new_space.Tie as tie
+
+returns : tie.Need-returns
+returns c =
+    let x = c .before .before in
+    let y = x .before .before .before .before in
+    new-space-is _ _ _ (y .before .start .ensures) (y .enter-space .ensures) (x .enter-page .ensures)
+
+pub new-space-spec : {M : Type 1} → statement M
+new-space-spec =
+    tie.close
+    (tie.spec
+    (λ c κs. search needs) (λ c κs. search needs) (λ c κs. search needs) (λ c. search needs) returns)
