@@ -1,0 +1,4 @@
+pub mod Boot
+pub mod Batch
+pub mod Turns
+pub mod Services
