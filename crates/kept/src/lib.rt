@@ -1,0 +1,1 @@
+// Every call keeps what acceptance demands: theorems over the definitions of the crates below, no code.
