@@ -1,0 +1,33 @@
+-- What Boot leaves on box A is accepted, whatever the key and the word that the memory held. Assumes nothing.
+use Prim.Native.Nat.{ℕ}
+use mathlib.Core.Path.{_≡_}
+use mathlib.Core.Logic.{inr}
+use mathlib.Core.List.{List}
+use native.Mathlib.Omega.{arith}
+use lib.ListN.{length, replicate, length-replicate}
+use Rattle.machine.specs.Machine.{Fits}
+use Rattle.accept.specs.Accept.{Accepted}
+use Rattle.monitor.specs.Boot.{freshLedger, freshMemory}
+use Rattle.monitor.proofs.Fresh.{fresh-accepted}
+use Rattle.box_a.specs.Shift.{boxA}
+
+fits : Fits boxA
+fits =
+    record {
+      frames-low = omega arith;
+      frames-high = omega arith;
+      pages-low = omega arith;
+      pages-high = omega arith;
+      monitors-low = omega arith;
+      secure-below = omega arith;
+      monitor-below = omega arith;
+      apart = inr (omega arith);
+    }
+
+pub accepted-a : (key : List ℕ) (v : ℕ) → length key ≡ 8 → Accepted boxA (freshMemory boxA (replicate 16384 v)) (freshLedger boxA key)
+accepted-a key v e =
+    fresh-accepted boxA key (replicate 16384 v) (replicate 288 0)
+    (record {
+      lent = record { fits = fits; memory = length-replicate 16384 v; ledger = length-replicate {A = ℕ} 288 0 };
+      key-words = e;
+    })

@@ -1,0 +1,1 @@
+// The shift on box A, as one proved table.
