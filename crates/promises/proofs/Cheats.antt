@@ -1,0 +1,135 @@
+-- Each cheat is caught on box A as Boot leaves it. Assumes nothing.
+use Prim.Native.Nat.{ℕ, suc, _*_, _/_, _<_}
+use mathlib.Core.Path.{_≡_, refl, sym, ap, _∙_}
+use mathlib.Core.List.{List, _∷_, _++_}
+use native.Mathlib.Omega.{arith}
+use lib.ListN.{length, getD, take, replicate, length-replicate}
+use lib.Seq.{getD-take}
+use Rattle.machine.specs.declared.Machine.{Machine}
+use Rattle.machine.specs.Machine.{recordWords}
+use Rattle.ledger.specs.Ledger.{header, rec, bit, mapBit, leastBelow, put, puts, padded, anew, bitOff, mapOff, enter, sumBelow}
+use Rattle.answer.specs.Answer.{Out, or, unless}
+use Rattle.answer.proofs.Laws.{listed-all}
+use Rattle.accept.specs.Accept.{isFree, mapWord, Accepted}
+use Rattle.system.specs.Calls.{freePages, freeCount, lowestFree, twoFreeCode, initAddrSpaceCode, newSpace, initAddrSpace}
+use Rattle.sha256.specs.Sha256.{H0}
+use Rattle.monitor.specs.Boot.{listBelow, freshMap, freshLedger, freshMemory}
+use Rattle.monitor.specs.Batch.{calls, found, allZero, turnCode, formCode, obey, after, batch}
+use Rattle.monitor.specs.Services.{mostRecords, BatchFits, Batched}
+use Rattle.box_a.specs.Shift.{boxA, row1, row2, row3, row4, row5, row6, row7, row8, shift, asked, played}
+use Rattle.box_a.proofs.Table.{table}
+use Rattle.box_a.proofs.Fresh.{accepted-a}
+use Rattle.promises.specs.Cheats.{Left, Service, Satisfies, Always, NobodyRefusesAll, NobodyHasASingleReply, NobodyMovesNothing, NobodyPlaysAllAtOnce, Counts, NobodyInventsCounts, MovingNothingKeeps}
+use Rattle.promises.proofs.Batches.{batch-take}
+
+-- what a batch that is done leaves
+abbrev left : Out → Left
+left o = record { says = 0; mem = o .mem; led = o .led; answers = o .ans }
+
+-- a service that satisfies the relation leaves that
+leaves : (S : Service) → Satisfies S → (b : Machine) (M L W A : List ℕ) → BatchFits b M L W A
+    → S b M L W A ≡ left (batch b (length W / recordWords) M L W)
+leaves S sat b M L W A fits = go (S b M L W A) (sat b M L W A)
+  where
+    go : (o : Left) → Batched b M L W A (o .says) (o .mem) (o .led) (o .answers) → o ≡ left (batch b (length W / recordWords) M L W)
+    go o (Batched.done f e p) = ap (λ (r : ℕ). record { says = r; mem = o .mem; led = o .led; answers = o .answers }) e ∙ ap left p
+    go o (Batched.ill-fitting n e m l a) = absurd (n fits)
+
+-- ---- the first fourteen cases of the shift
+shift-words : length (take (recordWords * 14) (asked shift)) ≡ recordWords * 14
+unfolding padded shift asked row1 row2 row3 row4 row5 row6 row7 row8
+shift-words = refl
+
+counted : (S : Service) → Satisfies S → (M L A : List ℕ) → Accepted boxA M L → length A ≡ recordWords * 14
+    → Counts (left (batch boxA 14 M L (asked shift))) → Counts (S boxA M L (take (recordWords * 14) (asked shift)) A)
+counted S sat M L A ok size counts =
+    let W = take (recordWords * 14) (asked shift) in
+    let fits : BatchFits boxA M L W A
+    = record { whole = rw shift-words refl; most = omega (arith, shift-words); answers = size ∙ sym shift-words; accepted = ok } in
+    let x : S boxA M L W A ≡ left (batch boxA 14 M L (asked shift))
+    = leaves S sat boxA M L W A fits ∙ rw shift-words (ap left (batch-take boxA 14 M L (asked shift))) in
+    rw x counts
+
+-- ---- asked of box A as Boot leaves it, with a key of zeros: a record of zeros, the space of pages 0 and 1, and FreePages before that
+M₀ : List ℕ
+M₀ = freshMemory boxA (replicate 16384 0)
+
+L₀ : List ℕ
+L₀ = freshLedger boxA (replicate 8 0)
+
+abbrev zeros : List ℕ
+zeros = replicate 32 0
+
+abbrev newly : List ℕ
+newly = 2 ∷ 0 ∷ 1 ∷ replicate 29 0
+
+abbrev count : List ℕ
+count = 13 ∷ replicate 31 0
+
+abbrev one : List ℕ → Out
+one W = batch boxA 1 M₀ L₀ W
+
+abbrev two : Out
+two = batch boxA 2 M₀ L₀ (count ++ newly)
+
+record Runs : Type 0 where
+  zeros-refused : getD (take recordWords (one zeros .ans)) 0 0 ≡ 19
+  newly-done : getD (take recordWords (one newly .ans)) 0 0 ≡ 0
+  count-still : (obey boxA M₀ L₀ count .mem ≡ M₀) × (obey boxA M₀ L₀ count .led ≡ L₀)
+  count-before : getD (take recordWords (two .ans)) 1 0 ≡ 8
+  count-after : getD (padded (obey boxA (two .mem) (two .led) count .ans)) 1 0 ≡ 6
+  newly-there : rec (one newly .led) 0 0 ≡ 1
+  newly-before : rec L₀ 0 0 ≡ 0
+
+runs : Runs
+unfolding batch after obey found calls formCode turnCode allZero or unless freePages freeCount lowestFree mapBit leastBelow initAddrSpace initAddrSpaceCode twoFreeCode newSpace enter mapOff anew puts put padded rec header bitOff bit H0 freshLedger listBelow freshMap mapWord isFree sumBelow L₀
+runs = record { zeros-refused = refl; newly-done = refl; count-still = (refl, refl); count-before = refl; count-after = refl; newly-there = refl; newly-before = refl }
+
+-- what a cheat does, it does there
+module _ (P : Machine → List ℕ → List ℕ → List ℕ → Left → Type 0) (S : Service) (sat : Satisfies S) (always : Always P S) where
+  caught : (k : ℕ) → k < mostRecords → (W : List ℕ) → length W ≡ recordWords * suc k → P boxA M₀ L₀ W (left (batch boxA (suc k) M₀ L₀ W))
+  unfolding M₀ L₀
+  caught k few W e =
+      let A : List ℕ = replicate (recordWords * suc k) 0 in
+      let n : length W / recordWords ≡ suc k = omega arith in
+      let fits : BatchFits boxA M₀ L₀ W A
+      = record { whole = omega arith; most = omega arith; answers = length-replicate {A = ℕ} (recordWords * suc k) 0 ∙ sym e; accepted = accepted-a (replicate 8 0) 0 refl } in
+      let x : S boxA M₀ L₀ W A ≡ left (batch boxA (suc k) M₀ L₀ W) = leaves S sat boxA M₀ L₀ W A fits ∙ rw n refl in
+      rw x at (always boxA M₀ L₀ W A k e (ap (λ (o : Left). o .says) x))
+
+pub nobody-refuses-all : NobodyRefusesAll
+nobody-refuses-all S sat always =
+    caught (λ b M L W o. getD (o .answers) 0 0 ≡ 0 → ⊥) S sat always 0 (omega arith) newly refl
+    (sym (getD-take recordWords (one newly .ans) 0 0 (omega arith)) ∙ runs .newly-done)
+
+pub nobody-has-a-single-reply : NobodyHasASingleReply
+nobody-has-a-single-reply R S sat always =
+    let reply = caught (λ b M L W o. take recordWords (o .answers) ≡ R b M L) S sat always in
+    let same = ap (λ (l : List ℕ). getD l 0 0) (reply 0 (omega arith) newly refl ∙ sym (reply 0 (omega arith) zeros refl)) in
+    omega (arith, runs .newly-done, runs .zeros-refused)
+
+pub nobody-moves-nothing : NobodyMovesNothing
+nobody-moves-nothing S sat always =
+    let same = caught (λ b M L W o. (o .mem ≡ M) × (o .led ≡ L)) S sat always 0 (omega arith) newly refl .1 in
+    omega (arith, ap (λ (l : List ℕ). rec l 0 0) same, runs .newly-there, runs .newly-before)
+
+pub nobody-plays-all-at-once : NobodyPlaysAllAtOnce
+nobody-plays-all-at-once S sat always =
+    let same
+    = caught
+    (λ b M L W o.
+    obey b M L (take recordWords W) .mem ≡ M → obey b M L (take recordWords W) .led ≡ L
+    → take recordWords (o .answers) ≡ padded (obey b (o .mem) (o .led) (take recordWords W) .ans))
+    S sat always 1 (omega arith) (count ++ newly) refl (runs .count-still .0) (runs .count-still .1) in
+    omega (arith, ap (λ (l : List ℕ). getD l 1 0) same, runs .count-before, runs .count-after)
+
+pub nobody-invents-counts : NobodyInventsCounts
+unfolding played
+nobody-invents-counts S sat key A v e size =
+    let t = rw (listed-all 8 key e) at
+    (table (getD key 0 0) (getD key 1 0) (getD key 2 0) (getD key 3 0) (getD key 4 0) (getD key 5 0) (getD key 6 0) (getD key 7 0) v) in
+    counted S sat (freshMemory boxA (replicate 16384 v)) (freshLedger boxA key) A (accepted-a key v e) size
+    (record { owned = t .owned; blocks = t .blocks; free-word = t .free-word })
+
+pub moving-nothing-keeps : MovingNothingKeeps
+moving-nothing-keeps S still b M L W A ok = let x = still b M L W A in rw (x .0, x .1) ok

@@ -1,0 +1,7 @@
+pub mod Obeyed
+pub mod Refused
+pub mod Batches
+pub mod Settled
+pub mod Kept
+pub mod Access
+pub mod Cheats

@@ -1,0 +1,41 @@
+-- The promises hold. Assumes nothing.
+use Rattle.promises.proofs.Refused.{refused-moves-nothing, list-carries-on, outcomes-stand-alone, eighteen-moves-nothing, empty-moves-nothing}
+use Rattle.promises.proofs.Settled.{boot-is-settled, acceptance-is-settled, batch-is-settled, cut-in-two-is-the-same, fresh-gets-a-yes}
+use Rattle.promises.proofs.Cheats.{nobody-refuses-all, nobody-has-a-single-reply, nobody-moves-nothing, nobody-plays-all-at-once, nobody-invents-counts, moving-nothing-keeps}
+use Rattle.promises.proofs.Kept.{every-record-keeps, every-batch-keeps, outsiders-keep, history-keeps, fresh-is-accepted}
+use Rattle.promises.proofs.Access.{load-touches-one-word, store-touches-one-word, reached-alone, reached-alone-always}
+use Rattle.promises.proofs.promised.Statement.{statement}
+use Rattle.promises.proofs.promised.Tie as tie
+
+returns : tie.Need-returns
+returns c =
+    record {
+      refused-moves-nothing = refused-moves-nothing;
+      list-carries-on = list-carries-on;
+      outcomes-stand-alone = outcomes-stand-alone;
+      eighteen-moves-nothing = eighteen-moves-nothing;
+      empty-moves-nothing = empty-moves-nothing;
+      boot-is-settled = boot-is-settled;
+      acceptance-is-settled = acceptance-is-settled;
+      batch-is-settled = batch-is-settled;
+      cut-in-two-is-the-same = cut-in-two-is-the-same;
+      fresh-gets-a-yes = fresh-gets-a-yes;
+      nobody-refuses-all = nobody-refuses-all;
+      nobody-has-a-single-reply = nobody-has-a-single-reply;
+      nobody-moves-nothing = nobody-moves-nothing;
+      nobody-plays-all-at-once = nobody-plays-all-at-once;
+      nobody-invents-counts = nobody-invents-counts;
+      moving-nothing-keeps = moving-nothing-keeps;
+      every-record-keeps = every-record-keeps;
+      every-batch-keeps = every-batch-keeps;
+      outsiders-keep = outsiders-keep;
+      history-keeps = history-keeps;
+      fresh-is-accepted = fresh-is-accepted;
+      load-touches-one-word = load-touches-one-word;
+      store-touches-one-word = store-touches-one-word;
+      reached-alone = reached-alone;
+      reached-alone-always = reached-alone-always;
+    }
+
+pub promised-spec : {M : Type 1} → statement M
+promised-spec = tie.close (tie.spec returns)

@@ -1,0 +1,6 @@
+pub mod Refused
+pub mod Kept
+pub mod Access
+pub mod Settled
+pub mod Cheats
+pub mod Promises
