@@ -1,0 +1,124 @@
+/* The proved enclave monitor: three services for a host.
+
+   A box has F frames of 1,024 words. Its secure frames are s to s+n-1, the monitor's own m to m+k-1; every other frame below F is insecure.
+   Secure page p is frame s+p. A word is unsigned and has 32 bits. The host lends the memory (1,024F words) and the ledger (32+32n words),
+   and the services read and write them in place.
+
+   What the services promise, for any words and numbers whatever:
+   - Each answers and returns. They keep nothing between calls and call nothing back.
+   - What does not fit gets MONITOR_UNFIT (monitor_accepts: false), and then every lent word is as it was.
+   - Otherwise the answer and every lent word afterwards are those that the build description lays down, and no others.
+
+   What the host owes, which C cannot check:
+   - Each pointer is not null, aligned for uint32_t, and good for the number of words beside it, also where that number is 0.
+   - A list that a service writes (memory, ledger, answers; not acceptance's) overlaps no other list of the same call.
+   - Nobody else writes the lists, or reads those that are written, until the service returns.
+
+   Link with libmonitor.a, which 'rt staticlib monitor' writes (x86-64). */
+#ifndef MONITOR_H
+#define MONITOR_H
+
+#include <stdbool.h>
+#include <stddef.h>
+#include <stdint.h>
+
+#ifdef __cplusplus
+extern "C" {
+#endif
+
+/* Lengths in words. */
+enum {
+    MONITOR_FRAME_WORDS = 1024,
+    MONITOR_HEADER_WORDS = 32,
+    MONITOR_RECORD_WORDS = 32, /* of a page in the ledger, of a call and of its answer */
+    MONITOR_KEY_WORDS = 8,
+    MONITOR_MOST_CALLS = 512 /* in a batch */
+};
+
+/* The numbers in word 0 of a call record, and the arguments that follow; the words after them are zero. */
+enum monitor_call {
+    /* asked by the system, while no thread runs */
+    MONITOR_GET_PHYS_PAGES = 1,   /* */
+    MONITOR_INIT_ADDR_SPACE = 2,  /* space, first-level page */
+    MONITOR_INIT_THREAD = 3,      /* space, page, entry */
+    MONITOR_INIT_TABLE = 4,       /* InitL2PTable: space, page, index */
+    MONITOR_ALLOC_SPARE = 5,      /* space, page */
+    MONITOR_MAP_SECURE = 6,       /* space, page, mapping word, frame */
+    MONITOR_MAP_INSECURE = 7,     /* space, mapping word, frame */
+    MONITOR_FINALISE = 8,         /* space */
+    MONITOR_ENTER = 9,            /* thread, x, y, z */
+    MONITOR_RESUME = 10,          /* thread */
+    MONITOR_STOP = 11,            /* space */
+    MONITOR_REMOVE = 12,          /* page */
+    MONITOR_FREE_PAGES = 13,      /* */
+    /* asked by the enclave, while its thread runs */
+    MONITOR_GET_RANDOM = 32,      /* word, from the hardware */
+    MONITOR_ATTEST = 33,          /* 8 words */
+    MONITOR_VERIFY = 34,          /* data, measurement and MAC, 8 words each */
+    MONITOR_SPARE_TABLE = 35,     /* InitL2PTable: own spare page, index */
+    MONITOR_MAP_DATA = 36,        /* own spare page, mapping word */
+    MONITOR_UNMAP_DATA = 37,      /* own data page */
+    MONITOR_EXIT = 38,            /* value */
+    MONITOR_INTERRUPT = 39,       /* r0-r15, flags */
+    MONITOR_FAULT = 40,           /* */
+    MONITOR_LOAD = 41,            /* address */
+    MONITOR_STORE = 42            /* address, word */
+};
+
+/* The code in word 0 of an answer record. After MONITOR_DONE stand the values: n for 1; r0-r15 and flags for 9 and 10; the count and the
+   lowest free page or n for 13; the word for 32 and 41; the MAC for 33; 1 or 0 for 34; the value for 38. All other words are zero. */
+enum monitor_code {
+    MONITOR_DONE = 0,
+    /* refusals: nothing has changed */
+    MONITOR_NO_SUCH_PAGE = 1,     /* a page number is n or more */
+    MONITOR_NOT_FREE = 2,         /* a page is not free, or both pages are one */
+    MONITOR_NOT_SPACE = 3,        /* not an address space */
+    MONITOR_WRONG_STATE = 4,      /* the space is not building; for 5, it is stopped */
+    MONITOR_OWNER_NOT_FINAL = 5,
+    MONITOR_ILL_FORMED = 6,       /* the mapping word, or it asks to execute an insecure frame */
+    MONITOR_SLOT_TAKEN = 7,
+    MONITOR_NO_TABLE = 8,         /* none for that address */
+    MONITOR_NOT_INSECURE = 9,     /* the frame */
+    MONITOR_NOT_THREAD = 10,
+    MONITOR_SUSPENDED = 11,
+    MONITOR_NOT_SUSPENDED = 12,
+    MONITOR_NOT_STOPPED = 13,     /* the space */
+    MONITOR_STILL_OWNS = 14,      /* the space still owns pages */
+    MONITOR_WRONG_TIME = 15,      /* 1-13 while a thread runs, 32-42 while none does */
+    MONITOR_NOT_OWN_SPARE = 16,
+    MONITOR_NOT_OWN_DATA = 17,
+    MONITOR_UNFIT = 18,           /* of a whole service: numbers or lengths, or acceptance said no */
+    MONITOR_BAD_RECORD = 19,      /* an unknown number, or a word that is not zero after the arguments */
+    MONITOR_NO_SUCH_INDEX = 21,   /* 256 or more */
+    MONITOR_ALREADY_FREE = 22,
+    /* outcomes: the run has ended */
+    MONITOR_INTERRUPTED = 32,     /* the thread is suspended */
+    MONITOR_FAULTED = 33
+};
+
+/* Boot: a fresh ledger with all pages free and this key of 8 words; secure frames zero, other frames unchanged. Nothing is asked of the
+   words that were there. Answers MONITOR_DONE; MONITOR_UNFIT where numbers or lengths break the rules. */
+uint32_t monitor_boot(uint32_t F, uint32_t s, uint32_t n, uint32_t m, uint32_t k,
+                      const uint32_t *key, size_t key_words,
+                      uint32_t *memory, size_t memory_words,
+                      uint32_t *ledger, size_t ledger_words);
+
+/* Acceptance: whether the memory and the ledger are in order, numbers and lengths included. Writes nothing. */
+bool monitor_accepts(uint32_t F, uint32_t s, uint32_t n, uint32_t m, uint32_t k,
+                     const uint32_t *memory, size_t memory_words,
+                     const uint32_t *ledger, size_t ledger_words);
+
+/* A batch: 0 to 512 call records of 32 words, and an answer list of equal length. Acceptance is asked first; then the records are obeyed in
+   order, each answered in its 32 words of the answers. Answers MONITOR_DONE; MONITOR_UNFIT where numbers or lengths break the rules or
+   acceptance says no. From an accepted state every batch leads to an accepted state, whatever others write to insecure frames between. */
+uint32_t monitor_batch(uint32_t F, uint32_t s, uint32_t n, uint32_t m, uint32_t k,
+                       uint32_t *memory, size_t memory_words,
+                       uint32_t *ledger, size_t ledger_words,
+                       const uint32_t *calls, size_t calls_words,
+                       uint32_t *answers, size_t answers_words);
+
+#ifdef __cplusplus
+}
+#endif
+
+#endif

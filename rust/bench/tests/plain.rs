@@ -1,0 +1,46 @@
+//! The plain side of the table answers as the second program does, so that
+//! the two sides of a row do the same work.
+
+use bench::plain;
+use second::random::{fresh, next_call, random_machine, Rng, View};
+use second::{batch, sha};
+
+#[test]
+fn hashes_agree() {
+    let mut rng = Rng::new(41);
+    for blocks in [0, 1, 2, 64] {
+        let words: Vec<u32> = (0..16 * blocks).map(|_| rng.word()).collect();
+        let mut hash = plain::sha::START;
+        plain::sha::absorb(&mut hash, &words);
+        assert_eq!(hash, sha::add(sha::START, &words));
+    }
+    let words: Vec<u32> = (0..24).map(|_| rng.word()).collect();
+    let key = std::array::from_fn(|place| words[place]);
+    let mac = plain::sha::mac(&key, &words[8..16], &words[16..]);
+    assert_eq!(mac, sha::mac(&key, &words[8..16], &words[16..]));
+}
+
+#[test]
+fn calls_agree() {
+    let mut rng = Rng::new(42);
+    let mut seen = std::collections::BTreeSet::new();
+    for _ in 0..60 {
+        let machine = random_machine(&mut rng);
+        if machine.frames > 30 {
+            continue;
+        }
+        let (mut memory, mut ledger) = fresh(&mut rng, machine);
+        for _ in 0..150 {
+            let call = next_call(&mut rng, View { machine, memory: &memory, ledger: &ledger });
+            let (mut mem, mut led) = (memory.clone(), ledger.clone());
+            let (mut answer, mut plainly) = ([0; 32], [7; 32]);
+            assert_eq!(batch(machine, &mut memory, &mut ledger, &call, &mut answer), 0);
+            if plain::CALLS.iter().any(|(number, _)| *number == call[0]) {
+                assert_eq!(plain::batch(machine, &mut mem, &mut led, &call, &mut plainly), 0);
+                assert!(plainly == answer && mem == memory && led == ledger, "{call:?}");
+                seen.insert((call[0], answer[0]));
+            }
+        }
+    }
+    assert!(plain::CALLS.iter().all(|(number, _)| seen.contains(&(*number, 0))), "{seen:?}");
+}

@@ -1,0 +1,29 @@
+//! The proved SHA-256 and HMAC against the second program's.
+
+use crate::lent::random_words;
+use crate::Outcome;
+use second::random::Rng;
+use second::sha;
+
+/// Messages of every length up to five blocks, and of some more.
+pub fn hashes(seed: u64) -> Outcome {
+    let rng = &mut Rng::new(seed);
+    for words in (0..=80).chain([1023, 1024, 1025]) {
+        let message = random_words(rng, words);
+        same("digest", words, hash::digest(&message), sha::digest(&sha::bytes(&message)))?;
+        let start = std::array::from_fn(|_| rng.word());
+        let whole = words.is_multiple_of(16).then(|| sha::add(start, &message));
+        same("absorb", words, hash::absorb(start, &message), whole)?;
+        let key = random_words(rng, words % 18);
+        let mac = (key.len() <= 16).then(|| sha::hmac(&sha::bytes(&key), &sha::bytes(&message)));
+        same("hmac", words, hash::hmac(&key, &message), mac)?;
+    }
+    Ok(())
+}
+
+fn same<T: PartialEq + std::fmt::Debug>(what: &str, words: usize, ours: T, theirs: T) -> Outcome {
+    match ours == theirs {
+        true => Ok(()),
+        false => Err(format!("{what} of {words} words: ours {ours:x?}, the second {theirs:x?}")),
+    }
+}

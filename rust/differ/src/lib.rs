@@ -1,0 +1,30 @@
+//! Holds the proved library to the second program: the same words are lent to
+//! both, and after every service the answers and every lent word must agree.
+//!
+//! A run is a row of rounds. Each has a seed of its own, the run's seed plus
+//! its place, so that a round that finds a difference can be had again alone.
+
+pub mod fitting;
+pub mod hashes;
+pub mod lent;
+pub mod services;
+pub mod shift;
+pub mod tally;
+pub mod twins;
+
+use second::random::Rng;
+use services::Services;
+use tally::Tally;
+
+/// What a round says: nothing, or how the two differ.
+pub type Outcome = Result<(), String>;
+
+/// One round: a shift on a random or a boundary machine with damage between,
+/// then numbers and lengths that do not fit. Ends at the first difference.
+pub fn round(services: &dyn Services, seed: u64, tally: &mut Tally) -> Outcome {
+    let rng = &mut Rng::new(seed);
+    let found = shift::on_a_machine(services, rng, seed, tally)
+        .and_then(|()| fitting::ill_fitting(services, rng, seed, tally));
+    tally.rounds += 1;
+    found.map_err(|difference| format!("seed {seed}: {difference}"))
+}

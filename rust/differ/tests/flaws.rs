@@ -1,0 +1,278 @@
+//! Wrong monitors, each with one flaw, are told from the second program.
+
+use differ::round;
+use differ::services::{Second, Services};
+use differ::tally::Tally;
+use second::{accepts, batch, boot, Machine};
+
+type Boot = fn(Machine, &[u32], &mut [u32], &mut [u32]) -> u32;
+type Accepts = fn(Machine, &[u32], &[u32]) -> bool;
+type Batch = fn(Machine, &mut [u32], &mut [u32], &[u32], &mut [u32]) -> u32;
+
+/// The second program with one flaw in one of its services.
+#[derive(Clone, Copy)]
+enum Flaw {
+    Boot(Boot),
+    Accepts(Accepts),
+    Batch(Batch),
+}
+
+impl Services for Flaw {
+    fn boot(&self, m: Machine, key: &[u32], memory: &mut [u32], ledger: &mut [u32]) -> u32 {
+        match self {
+            Flaw::Boot(boot) => boot(m, key, memory, ledger),
+            _ => boot(m, key, memory, ledger),
+        }
+    }
+
+    fn accepts(&self, m: Machine, memory: &[u32], ledger: &[u32]) -> bool {
+        match self {
+            Flaw::Accepts(accepts) => accepts(m, memory, ledger),
+            _ => accepts(m, memory, ledger),
+        }
+    }
+
+    fn batch(
+        &self,
+        m: Machine,
+        memory: &mut [u32],
+        ledger: &mut [u32],
+        calls: &[u32],
+        answers: &mut [u32],
+    ) -> u32 {
+        match self {
+            Flaw::Batch(batch) => batch(m, memory, ledger, calls, answers),
+            _ => batch(m, memory, ledger, calls, answers),
+        }
+    }
+}
+
+/// The first difference in so many rounds.
+fn difference(services: &dyn Services, rounds: u64) -> Option<String> {
+    let mut tally = Tally::default();
+    (0..rounds).find_map(|seed| round(services, seed, &mut tally).err())
+}
+
+fn told_apart(name: &str, flaw: Flaw) {
+    let found = difference(&flaw, 60);
+    println!("{name}: {}", found.as_deref().unwrap_or("NOT FOUND"));
+    assert!(found.is_some(), "{name}");
+}
+
+#[test]
+fn the_second_program_is_not_told_from_itself() {
+    assert_eq!(difference(&Second, 8), None);
+}
+
+#[test]
+fn wrong_boots() {
+    told_apart(
+        "boots with a key of any length",
+        Flaw::Boot(|m, key, mem, led| {
+            let key: Vec<u32> = key.iter().copied().chain([0; 8]).take(8).collect();
+            boot(m, &key, mem, led)
+        }),
+    );
+    told_apart(
+        "leaves the last secure word",
+        Flaw::Boot(|m, key, mem, led| {
+            let last = (m.secure as usize + m.pages as usize) * 1024;
+            let old = mem.get(last.wrapping_sub(1)).copied();
+            let code = boot(m, key, mem, led);
+            if let (0, Some(word)) = (code, old) {
+                mem[last - 1] = word;
+            }
+            code
+        }),
+    );
+    told_apart(
+        "wipes frame 0",
+        Flaw::Boot(|m, key, mem, led| {
+            let code = boot(m, key, mem, led);
+            if code == 0 {
+                mem[..1024].fill(0);
+            }
+            code
+        }),
+    );
+    told_apart(
+        "writes the ledger although it refuses",
+        Flaw::Boot(|m, key, mem, led| {
+            let code = boot(m, key, mem, led);
+            if code != 0 {
+                led.fill(0);
+            }
+            code
+        }),
+    );
+}
+
+#[test]
+fn wrong_acceptances() {
+    told_apart("says no to all", Flaw::Accepts(|_, _, _| false));
+    told_apart("says yes to all", Flaw::Accepts(|_, _, _| true));
+    told_apart(
+        "overlooks the header's end",
+        Flaw::Accepts(|m, mem, led| {
+            let mut led = led.to_vec();
+            led.iter_mut().take(32).skip(17).for_each(|word| *word = 0);
+            accepts(m, mem, &led)
+        }),
+    );
+    told_apart(
+        "overlooks a last word of memory",
+        Flaw::Accepts(|m, mem, led| {
+            let mut mem = mem.to_vec();
+            for page in 0..m.pages.min(256) as usize {
+                if led.get(32 + 32 * page) != Some(&5) {
+                    mem.get_mut((m.secure as usize + page) * 1024 + 1023)
+                        .into_iter()
+                        .for_each(|w| *w = 0);
+                }
+            }
+            accepts(m, &mem, led)
+        }),
+    );
+    told_apart(
+        "keeps the link rules of stopped spaces",
+        Flaw::Accepts(|m, mem, led| {
+            let stopped = led.chunks(32).skip(1).any(|page| page[0] == 1 && page[3] == 2);
+            accepts(m, mem, led) && !stopped
+        }),
+    );
+    told_apart(
+        "lets the sum of secure frames wrap",
+        Flaw::Accepts(|m, mem, led| {
+            accepts(m, mem, led)
+                || (m.secure.wrapping_add(m.pages) <= m.frames && m.secure > 1 << 16)
+        }),
+    );
+}
+
+#[test]
+fn wrong_batches() {
+    told_apart("refuses all", Flaw::Batch(|_, _, _, _, _| 18));
+    told_apart(
+        "has a single reply",
+        Flaw::Batch(|m, mem, led, calls, answers| {
+            let code = batch(m, mem, led, calls, answers);
+            if code == 0 {
+                answers.fill(0);
+            }
+            code
+        }),
+    );
+    told_apart(
+        "moves nothing",
+        Flaw::Batch(|m, mem, led, calls, answers| {
+            batch(m, &mut mem.to_vec(), &mut led.to_vec(), calls, answers)
+        }),
+    );
+    told_apart(
+        "plays the whole list at its first record",
+        Flaw::Batch(|m, mem, led, calls, answers| {
+            let code = batch(m, mem, led, calls, &mut answers.to_vec());
+            let (mut mem, mut led) = (mem.to_vec(), led.to_vec());
+            batch(m, &mut mem, &mut led, calls, answers).max(code)
+        }),
+    );
+    told_apart(
+        "writes answers although it refuses",
+        Flaw::Batch(|m, mem, led, calls, answers| {
+            let code = batch(m, mem, led, calls, answers);
+            if code == 18 {
+                answers.fill(18);
+            }
+            code
+        }),
+    );
+    told_apart(
+        "takes 513 records",
+        Flaw::Batch(|m, mem, led, calls, answers| {
+            if calls.len() == 32 * 513 && answers.len() == calls.len() {
+                let (first, last) = answers.split_at_mut(32);
+                return batch(m, mem, led, &calls[..32], first).max(batch(
+                    m,
+                    mem,
+                    led,
+                    &calls[32..],
+                    last,
+                ));
+            }
+            batch(m, mem, led, calls, answers)
+        }),
+    );
+}
+
+/// After a batch of one record, spoils what the record's call has done.
+fn spoiled(
+    m: Machine,
+    memory: &mut [u32],
+    ledger: &mut [u32],
+    calls: &[u32],
+    answers: &mut [u32],
+    spoil: fn(&[u32], &mut [u32], &mut [u32]),
+) -> u32 {
+    let code = batch(m, memory, ledger, calls, answers);
+    if code == 0 && calls.len() == 32 {
+        spoil(calls, answers, ledger);
+    }
+    code
+}
+
+macro_rules! spoils {
+    ($name:literal, $spoil:expr) => {
+        told_apart(
+            $name,
+            Flaw::Batch(|m, mem, led, calls, answers| spoiled(m, mem, led, calls, answers, $spoil)),
+        )
+    };
+}
+
+#[test]
+fn wrong_calls() {
+    spoils!("invents an owned count", |call, answer, ledger| {
+        if call[0] == 5 && answer[0] == 0 {
+            ledger[32 + 32 * call[1] as usize + 4] += 1;
+        }
+    });
+    spoils!("invents a block count", |call, answer, ledger| {
+        if call[0] == 3 && answer[0] == 0 {
+            ledger[32 + 32 * call[1] as usize + 5] += 64;
+        }
+    });
+    spoils!("invents a free count", |call, answer, _| {
+        if call[0] == 13 && answer[0] == 0 {
+            answer[1] ^= 1;
+        }
+    });
+    spoils!("leaves a resumed thread suspended", |call, answer, ledger| {
+        if call[0] == 10 && answer[0] == 0 {
+            ledger[32 + 32 * call[1] as usize + 3] = 1;
+        }
+    });
+    spoils!("says 17 where 16 is meant", |_, answer, _| {
+        if answer[0] == 16 {
+            answer[0] = 17;
+        }
+    });
+    spoils!("leaves a word in a refusal's record", |call, answer, _| {
+        if answer[0] == 8 {
+            answer[31] = call[1];
+        }
+    });
+    spoils!("keeps the low flags", |call, answer, ledger| {
+        if call[0] == 39 && answer[0] == 32 && call[17] & 1 == 1 {
+            ledger.chunks_mut(32).skip(1).filter(|page| page[0] == 2 && page[3] == 1).for_each(
+                |page| {
+                    page[20] |= 1;
+                },
+            );
+        }
+    });
+    spoils!("verifies anything", |call, answer, _| {
+        if call[0] == 34 && answer[0] == 0 {
+            answer[1] = 1;
+        }
+    });
+}

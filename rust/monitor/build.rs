@@ -1,0 +1,6 @@
+//! Links the proved library.
+include!("../archive.rs");
+
+fn main() {
+    link_archive("monitor");
+}

@@ -1,0 +1,157 @@
+use crate::call::Call;
+use crate::record::{part, record_of, Record};
+use crate::refusal::Refusal;
+use std::fmt;
+
+/// r0-r15 and the flags.
+#[derive(Clone, Copy, Debug, Default, PartialEq, Eq, Hash)]
+pub struct Registers {
+    /// r0 to r15; a run starts at r15.
+    pub r: [u32; 16],
+    /// The flags, in the top 4 bits.
+    pub flags: u32,
+}
+
+impl Registers {
+    /// The registers of 17 words.
+    pub(crate) fn of(words: [u32; 17]) -> Registers {
+        Registers { r: std::array::from_fn(|place| words[place]), flags: words[16] }
+    }
+
+    pub(crate) fn words(&self) -> [u32; 17] {
+        std::array::from_fn(|place| *self.r.get(place).unwrap_or(&self.flags))
+    }
+}
+
+/// The answer of a call.
+///
+/// ```
+/// use monitor::{Answer, Call, Refusal};
+///
+/// let mut record = [0; 32];
+/// record[0] = 22;
+/// let call = Call::Remove { page: 3 };
+/// assert_eq!(Answer::decode(&call, &record), Some(Answer::Refused(Refusal::AlreadyFree)));
+/// assert_eq!(Answer::Refused(Refusal::AlreadyFree).encode(), record);
+/// ```
+#[derive(Clone, Copy, Debug, PartialEq, Eq, Hash)]
+pub enum Answer {
+    /// Refused: nothing has changed.
+    Refused(Refusal),
+    /// Done, with nothing more to say.
+    Done,
+    /// GetPhysPages: n.
+    Pages(u32),
+    /// FreePages.
+    Free {
+        /// How many pages are free.
+        count: u32,
+        /// The lowest of them, n where there is none.
+        lowest: u32,
+    },
+    /// Enter and Resume: the thread runs with these registers.
+    Runs(Registers),
+    /// GetRandom.
+    Random(u32),
+    /// Attest: the MAC.
+    Attested([u32; 8]),
+    /// Verify.
+    Verified(bool),
+    /// Exit: the run has ended with this value.
+    Exited(u32),
+    /// Load: the word.
+    Loaded(u32),
+    /// 32: the run has ended, the thread is suspended.
+    Interrupted,
+    /// 33: the run has ended as a fault.
+    Faulted,
+}
+
+impl Answer {
+    const INTERRUPTED: u32 = 32;
+    const FAULTED: u32 = 33;
+
+    /// The answer that a record gives to a call; none where the record is not
+    /// an answer to such a call.
+    pub fn decode(call: &Call, record: &Record) -> Option<Answer> {
+        let answer = match record[0] {
+            0 => Answer::done(call, record)?,
+            Answer::INTERRUPTED => Answer::Interrupted,
+            Answer::FAULTED => Answer::Faulted,
+            code => Answer::Refused(Refusal::from_code(code)?),
+        };
+        (answer.encode() == *record).then_some(answer)
+    }
+
+    /// The answer of a record that starts with 0, by the call's values.
+    fn done(call: &Call, record: &Record) -> Option<Answer> {
+        Some(match call {
+            Call::GetPhysPages => Answer::Pages(record[1]),
+            Call::FreePages => Answer::Free { count: record[1], lowest: record[2] },
+            Call::Enter { .. } | Call::Resume { .. } => {
+                Answer::Runs(Registers::of(part(record, 1)))
+            }
+            Call::GetRandom { .. } => Answer::Random(record[1]),
+            Call::Attest { .. } => Answer::Attested(part(record, 1)),
+            Call::Verify { .. } => Answer::Verified(record[1] == 1),
+            Call::Exit { .. } => Answer::Exited(record[1]),
+            Call::Load { .. } => Answer::Loaded(record[1]),
+            Call::Interrupt { .. } | Call::Fault => return None,
+            _ => Answer::Done,
+        })
+    }
+
+    /// The number in word 0 of the record.
+    pub fn code(&self) -> u32 {
+        match self {
+            Answer::Refused(refusal) => refusal.code(),
+            Answer::Interrupted => Answer::INTERRUPTED,
+            Answer::Faulted => Answer::FAULTED,
+            _ => 0,
+        }
+    }
+
+    /// The values after the number.
+    pub fn values(&self) -> Vec<u32> {
+        match self {
+            Answer::Refused(_) | Answer::Done | Answer::Interrupted | Answer::Faulted => vec![],
+            Answer::Free { count, lowest } => vec![*count, *lowest],
+            Answer::Runs(registers) => registers.words().to_vec(),
+            Answer::Attested(mac) => mac.to_vec(),
+            Answer::Verified(yes) => vec![u32::from(*yes)],
+            Answer::Pages(word)
+            | Answer::Random(word)
+            | Answer::Exited(word)
+            | Answer::Loaded(word) => vec![*word],
+        }
+    }
+
+    /// The record of this answer: code, values, zeros.
+    pub fn encode(&self) -> Record {
+        let mut words = vec![self.code()];
+        words.extend(self.values());
+        record_of(&words)
+    }
+}
+
+/// The answer in words, without its values.
+impl fmt::Display for Answer {
+    fn fmt(&self, out: &mut fmt::Formatter) -> fmt::Result {
+        match self {
+            Answer::Refused(refusal) => refusal.fmt(out),
+            Answer::Done => out.write_str("done"),
+            Answer::Pages(pages) => write!(out, "{pages} secure pages"),
+            Answer::Free { count: 0, .. } => out.write_str("no page is free"),
+            Answer::Free { count, lowest } => write!(out, "{count} free, the lowest is {lowest}"),
+            Answer::Runs(registers) => write!(out, "runs from {}", registers.r[15]),
+            Answer::Random(word) => write!(out, "random word {word}"),
+            Answer::Attested(_) => out.write_str("attested"),
+            Answer::Verified(true) => out.write_str("the MAC is right"),
+            Answer::Verified(false) => out.write_str("the MAC is wrong"),
+            Answer::Exited(value) => write!(out, "the run ended with {value}"),
+            Answer::Loaded(word) => write!(out, "the word is {word}"),
+            Answer::Interrupted => out.write_str("interrupted, the thread is suspended"),
+            Answer::Faulted => out.write_str("fault, the run has ended"),
+        }
+    }
+}

@@ -1,0 +1,69 @@
+//! The proved enclave monitor, safe to call from Rust.
+//!
+//! A box lends its memory and a ledger of its secure pages. The monitor has
+//! three services over them: *boot* writes a fresh ledger, *acceptance* says
+//! whether the words are in order, and a *batch* obeys up to 512 calls. The
+//! code behind them is proved; this crate gives its words names and types.
+//!
+//! ```
+//! use monitor::{Answer, Call, Machine, Mapping, Monitor, Refusal};
+//!
+//! # fn main() -> Result<(), monitor::Unfit> {
+//! let mut bench = Monitor::boot(Machine::BOX_A, &[1, 2, 3, 4, 5, 6, 7, 8])?;
+//! bench.memory_mut().frame_mut(5).unwrap()[0] = 77;
+//!
+//! // An address space on pages 0 and 1, a table on 2, frame 5 copied to page 3.
+//! let map = Mapping::new(0, 1).writable();
+//! let build = [
+//!     Call::InitAddrSpace { space: 0, first: 0 },
+//!     Call::InitAddrSpace { space: 0, first: 1 },
+//!     Call::InitTable { space: 0, page: 2, index: 0 },
+//!     Call::MapSecure { space: 0, page: 3, map, frame: 5 },
+//!     Call::MapSecure { space: 0, page: 4, map, frame: 5 },
+//!     Call::InitThread { space: 0, page: 4, entry: 4096 },
+//!     Call::Finalise { space: 0 },
+//! ];
+//! let answers = bench.batch(&build)?;
+//! assert_eq!(answers[0], Answer::Refused(Refusal::NotFree));
+//! assert_eq!(answers[3], Answer::Done);
+//! assert_eq!(answers[4], Answer::Refused(Refusal::SlotTaken));
+//!
+//! // Its thread runs, and loads what was copied.
+//! let Answer::Runs(registers) = bench.call(Call::Enter { thread: 4, x: 7, y: 8, z: 9 })? else {
+//!     panic!("the thread is ready")
+//! };
+//! assert_eq!(registers.r[15], 4096);
+//! assert_eq!(bench.call(Call::Load { address: 4096 })?, Answer::Loaded(77));
+//! assert!(bench.accepted());
+//! # Ok(())
+//! # }
+//! ```
+//!
+//! - [`Monitor`] keeps a machine's numbers with its memory and ledger, owned
+//!   or borrowed, and hands them to the services.
+//! - [`Call`] and [`Answer`] are the table of calls; [`Refusal`] the reasons.
+//! - [`Memory`], [`Ledger`] and [`Page`] read the lent words.
+//! - [`words`] is the three services as they are exported, words and numbers.
+
+mod answer;
+mod call;
+mod ledger;
+mod machine;
+mod mapping;
+mod memory;
+mod monitor;
+mod page;
+mod record;
+mod refusal;
+pub mod words;
+
+pub use answer::{Answer, Registers};
+pub use call::Call;
+pub use ledger::Ledger;
+pub use machine::Machine;
+pub use mapping::Mapping;
+pub use memory::Memory;
+pub use monitor::{Monitor, Unfit};
+pub use page::{Page, Space, State, Thread};
+pub use record::Record;
+pub use refusal::Refusal;

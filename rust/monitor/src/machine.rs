@@ -1,0 +1,77 @@
+use crate::words::{FRAME, RECORD};
+
+/// The box's numbers F, s, n, m and k: which frames there are, and whose.
+///
+/// ```
+/// use monitor::Machine;
+///
+/// let bench = Machine::BOX_A;
+/// assert!(bench.fits());
+/// assert!(bench.is_insecure(5) && !bench.is_insecure(6) && !bench.is_insecure(1));
+/// assert_eq!(bench.page_in(6), Some(0));
+/// // Numbers that do not fit can be said; the services then answer 18.
+/// assert!(!Machine { frames: 13, ..bench }.fits());
+/// ```
+#[derive(Clone, Copy, Debug, PartialEq, Eq, Hash)]
+pub struct Machine {
+    /// F: how many frames there are, 1 to 4,096.
+    pub frames: u32,
+    /// s: the first secure frame.
+    pub secure: u32,
+    /// n: how many secure frames there are, 1 to 256; page p is frame s+p.
+    pub pages: u32,
+    /// m: the monitor's first frame.
+    pub monitor: u32,
+    /// k: how many frames the monitor has, at least 1.
+    pub monitors: u32,
+}
+
+/// Whether this is one of `count` numbers from `first` on. The sum may wrap
+/// in 32 bits.
+fn among(first: u32, count: u32, number: u32) -> bool {
+    number.checked_sub(first).is_some_and(|place| place < count)
+}
+
+/// The end of `count` frames from `first` on, not wrapped.
+fn end(first: u32, count: u32) -> u64 {
+    u64::from(first) + u64::from(count)
+}
+
+impl Machine {
+    /// Box A of the worked shift: 16 frames, the monitor's 0-1, secure 6-13.
+    pub const BOX_A: Machine = Machine { frames: 16, secure: 6, pages: 8, monitor: 0, monitors: 2 };
+
+    /// Whether these numbers keep the rules of a box.
+    pub fn fits(&self) -> bool {
+        let (secure, monitor) = (end(self.secure, self.pages), end(self.monitor, self.monitors));
+        let below = |end: u64| end <= u64::from(self.frames);
+        (1..=4096).contains(&self.frames)
+            && (1..=256).contains(&self.pages)
+            && self.monitors >= 1
+            && below(secure)
+            && below(monitor)
+            && (secure <= u64::from(self.monitor) || monitor <= u64::from(self.secure))
+    }
+
+    /// Whether a frame is below F and neither secure nor the monitor's.
+    pub fn is_insecure(&self, frame: u32) -> bool {
+        frame < self.frames
+            && !among(self.secure, self.pages, frame)
+            && !among(self.monitor, self.monitors, frame)
+    }
+
+    /// The secure page that this frame is.
+    pub fn page_in(&self, frame: u32) -> Option<u32> {
+        among(self.secure, self.pages, frame).then(|| frame - self.secure)
+    }
+
+    /// The words of memory that this machine lends: 1,024F.
+    pub fn memory_words(&self) -> usize {
+        self.frames as usize * FRAME
+    }
+
+    /// The words of ledger that this machine lends: 32+32n.
+    pub fn ledger_words(&self) -> usize {
+        RECORD + self.pages as usize * RECORD
+    }
+}

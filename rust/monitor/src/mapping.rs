@@ -1,0 +1,92 @@
+use std::fmt;
+
+const READ: u32 = 1;
+const WRITE: u32 = 2;
+const EXECUTE: u32 = 4;
+
+/// A mapping word: a page address in bits 12-29 and rights in bits 0-2.
+///
+/// It is a type of its own, so that it can't be mixed with a frame or a page.
+/// Any word can be one; [`Mapping::is_well_formed`] says whether calls take it.
+///
+/// ```
+/// use monitor::Mapping;
+///
+/// let map = Mapping::new(0, 1).writable();
+/// assert_eq!(map.word(), 4099);
+/// assert_eq!((map.index(), map.slot(), map.address()), (0, 1, 4096));
+/// assert!(map.is_well_formed() && !Mapping::from_word(4098).is_well_formed());
+/// assert_eq!(map.to_string(), "4096 rw-");
+/// ```
+#[derive(Clone, Copy, Debug, PartialEq, Eq, Hash)]
+pub struct Mapping(u32);
+
+impl Mapping {
+    /// The page at a first-level index (0-255) and a slot of its table
+    /// (0-1,023), to be read only. Higher bits of either are left out.
+    pub const fn new(index: u32, slot: u32) -> Mapping {
+        Mapping((index & 0xff) << 22 | (slot & 0x3ff) << 12 | READ)
+    }
+
+    /// Any word as a mapping word.
+    pub const fn from_word(word: u32) -> Mapping {
+        Mapping(word)
+    }
+
+    /// The word itself.
+    pub const fn word(self) -> u32 {
+        self.0
+    }
+
+    /// The same with the write right.
+    pub const fn writable(self) -> Mapping {
+        Mapping(self.0 | WRITE)
+    }
+
+    /// The same with the execute right.
+    pub const fn executable(self) -> Mapping {
+        Mapping(self.0 | EXECUTE)
+    }
+
+    /// The first-level index, bits 22-29.
+    pub const fn index(self) -> u32 {
+        self.0 >> 22 & 0xff
+    }
+
+    /// The slot of the second-level table, bits 12-21.
+    pub const fn slot(self) -> u32 {
+        self.0 >> 12 & 0x3ff
+    }
+
+    /// The page address, rights cleared.
+    pub const fn address(self) -> u32 {
+        self.0 & 0x3fff_f000
+    }
+
+    /// Whether the write right is in it.
+    pub const fn writes(self) -> bool {
+        self.0 & WRITE != 0
+    }
+
+    /// Whether the execute right is in it.
+    pub const fn executes(self) -> bool {
+        self.0 & EXECUTE != 0
+    }
+
+    /// Whether read is set, and no bit but those of address and rights.
+    pub const fn is_well_formed(self) -> bool {
+        self.0 & READ != 0 && self.0 & !0x3fff_f007 == 0
+    }
+}
+
+/// The address and the rights, as `4096 rw-`; the bare word where ill-formed.
+impl fmt::Display for Mapping {
+    fn fmt(&self, out: &mut fmt::Formatter) -> fmt::Result {
+        if !self.is_well_formed() {
+            return write!(out, "ill-formed {}", self.0);
+        }
+        let write = if self.writes() { 'w' } else { '-' };
+        let execute = if self.executes() { 'x' } else { '-' };
+        write!(out, "{} r{write}{execute}", self.address())
+    }
+}

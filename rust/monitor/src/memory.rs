@@ -1,0 +1,67 @@
+use crate::machine::Machine;
+use crate::words::FRAME;
+
+/// The memory: 1,024 words a frame. `W` holds the words: a `Vec<u32>` owns
+/// them, a `&mut [u32]` borrows them, a `&[u32]` only reads them.
+///
+/// ```
+/// use monitor::{Machine, Memory};
+///
+/// let mut memory = Memory::zeros(Machine::BOX_A);
+/// memory.frame_mut(5).unwrap()[3] = 9;
+/// assert_eq!(memory.frame(5).unwrap()[..4], [0, 0, 0, 9]);
+/// assert_eq!(memory.frame(16), None);
+///
+/// let mut mine = [0; 2048];
+/// assert_eq!(Memory::over(&mut mine[..]).frame_mut(1).unwrap().len(), 1024);
+/// ```
+#[derive(Clone, Debug, PartialEq, Eq)]
+pub struct Memory<W = Vec<u32>>(W);
+
+impl Memory {
+    /// Zeros for this machine.
+    pub fn zeros(machine: Machine) -> Memory {
+        Memory(vec![0; machine.memory_words()])
+    }
+}
+
+fn range_of(frame: u32) -> std::ops::Range<usize> {
+    let start = frame as usize * FRAME;
+    start..start + FRAME
+}
+
+impl<W> Memory<W> {
+    /// A memory over these words.
+    pub fn over(words: W) -> Memory<W> {
+        Memory(words)
+    }
+
+    /// The words back.
+    pub fn into_words(self) -> W {
+        self.0
+    }
+}
+
+impl<W: AsRef<[u32]>> Memory<W> {
+    /// All words.
+    pub fn words(&self) -> &[u32] {
+        self.0.as_ref()
+    }
+
+    /// The words of a frame, if there is such a frame.
+    pub fn frame(&self, frame: u32) -> Option<&[u32]> {
+        self.words().get(range_of(frame))
+    }
+}
+
+impl<W: AsMut<[u32]>> Memory<W> {
+    /// All words, to be written.
+    pub fn words_mut(&mut self) -> &mut [u32] {
+        self.0.as_mut()
+    }
+
+    /// The words of a frame, to be written.
+    pub fn frame_mut(&mut self, frame: u32) -> Option<&mut [u32]> {
+        self.words_mut().get_mut(range_of(frame))
+    }
+}

@@ -1,0 +1,161 @@
+use crate::answer::Registers;
+use crate::mapping::Mapping;
+use crate::record::{part, record_of, Record};
+
+/// How far an address space has come.
+#[derive(Clone, Copy, Debug, PartialEq, Eq, Hash)]
+pub enum State {
+    /// Pages are still added and measured.
+    Building = 0,
+    /// Its threads may run.
+    Final = 1,
+    /// Its pages may be removed, in any order.
+    Stopped = 2,
+}
+
+/// The record of an address space.
+#[derive(Clone, Copy, Debug, PartialEq, Eq, Hash)]
+pub struct Space {
+    /// Its own page.
+    pub page: u32,
+    /// Its first-level page.
+    pub first: u32,
+    /// How far it has come.
+    pub state: State,
+    /// How many other pages it owns.
+    pub owned: u32,
+    /// How many blocks were measured.
+    pub blocks: u32,
+    /// The running hash; the measurement once it is final.
+    pub hash: [u32; 8],
+}
+
+/// The record of a thread.
+#[derive(Clone, Copy, Debug, PartialEq, Eq, Hash)]
+pub struct Thread {
+    /// The space it runs in.
+    pub owner: u32,
+    /// Where Enter starts it.
+    pub entry: u32,
+    /// Whether it was interrupted and not resumed.
+    pub suspended: bool,
+    /// What it left behind, while suspended.
+    pub registers: Registers,
+}
+
+/// A secure page by its type.
+///
+/// ```
+/// use monitor::{Mapping, Page};
+///
+/// let page = Page::Data { owner: 0, map: Mapping::from_word(4099) };
+/// assert_eq!(page.encode()[..4], [5, 0, 4099, 0]);
+/// assert_eq!(Page::decode(&page.encode()), Some(page));
+/// ```
+#[derive(Clone, Copy, Debug, PartialEq, Eq, Hash)]
+#[allow(missing_docs)] // the fields are the record's named words
+pub enum Page {
+    /// 0: nobody's.
+    Free,
+    /// 1: an address space, which owns itself.
+    Space(Space),
+    /// 2: a thread.
+    Thread(Thread),
+    /// 3: a first-level table.
+    FirstTable { owner: u32 },
+    /// 4: a second-level table at an index of the first.
+    Table { owner: u32, index: u32 },
+    /// 5: data, mapped at an address.
+    Data { owner: u32, map: Mapping },
+    /// 6: owned, and not yet used.
+    Spare { owner: u32 },
+}
+
+impl State {
+    fn decode(word: u32) -> Option<State> {
+        [State::Building, State::Final, State::Stopped].get(word as usize).copied()
+    }
+}
+
+impl Space {
+    fn decode(record: &Record) -> Option<Space> {
+        Some(Space {
+            page: record[1],
+            first: record[2],
+            state: State::decode(record[3])?,
+            owned: record[4],
+            blocks: record[5],
+            hash: part(record, 6),
+        })
+    }
+
+    fn encode(&self) -> Record {
+        let Space { page, first, state, owned, blocks, hash } = self;
+        let mut record = record_of(&[1, *page, *first, *state as u32, *owned, *blocks]);
+        record[6..14].copy_from_slice(hash);
+        record
+    }
+}
+
+impl Thread {
+    fn decode(record: &Record) -> Thread {
+        Thread {
+            owner: record[1],
+            entry: record[2],
+            suspended: record[3] != 0,
+            registers: Registers::of(part(record, 4)),
+        }
+    }
+
+    fn encode(&self) -> Record {
+        let mut record = record_of(&[2, self.owner, self.entry, u32::from(self.suspended)]);
+        record[4..21].copy_from_slice(&self.registers.words());
+        record
+    }
+}
+
+impl Page {
+    /// The page of a record; none where the type or a state is no number of
+    /// the table, or an unnamed word is not zero. Acceptance asks for more.
+    pub fn decode(record: &Record) -> Option<Page> {
+        let owner = record[1];
+        let page = match record[0] {
+            0 => Page::Free,
+            1 => Page::Space(Space::decode(record)?),
+            2 => Page::Thread(Thread::decode(record)),
+            3 => Page::FirstTable { owner },
+            4 => Page::Table { owner, index: record[2] },
+            5 => Page::Data { owner, map: Mapping::from_word(record[2]) },
+            6 => Page::Spare { owner },
+            _ => return None,
+        };
+        (page.encode() == *record).then_some(page)
+    }
+
+    /// The record of this page.
+    pub fn encode(&self) -> Record {
+        match self {
+            Page::Free => record_of(&[]),
+            Page::Space(space) => space.encode(),
+            Page::Thread(thread) => thread.encode(),
+            Page::FirstTable { owner } => record_of(&[3, *owner]),
+            Page::Table { owner, index } => record_of(&[4, *owner, *index]),
+            Page::Data { owner, map } => record_of(&[5, *owner, map.word()]),
+            Page::Spare { owner } => record_of(&[6, *owner]),
+        }
+    }
+
+    /// The space that this page belongs to; none for a free page. A space
+    /// belongs to itself.
+    pub fn owner(&self) -> Option<u32> {
+        match self {
+            Page::Free => None,
+            Page::Space(space) => Some(space.page),
+            Page::Thread(thread) => Some(thread.owner),
+            Page::FirstTable { owner }
+            | Page::Table { owner, .. }
+            | Page::Data { owner, .. }
+            | Page::Spare { owner } => Some(*owner),
+        }
+    }
+}

@@ -1,0 +1,149 @@
+//! The three services over plain words, as the library exports them. Nothing
+//! is asked of the words: what does not fit gets 18, or a no, and stays put.
+//!
+//! ```
+//! use monitor::{words, Machine};
+//!
+//! let machine = Machine::BOX_A;
+//! let mut memory = vec![0; machine.memory_words()];
+//! let mut ledger = vec![0; machine.ledger_words()];
+//! assert_eq!(words::boot(machine, &[0; 7], &mut memory, &mut ledger), words::UNFIT);
+//! assert_eq!(words::boot(machine, &[0; 8], &mut memory, &mut ledger), words::DONE);
+//! assert!(words::accepts(machine, &memory, &ledger));
+//!
+//! let mut calls = [0; 32];
+//! calls[0] = 1; // GetPhysPages
+//! let mut answers = [0; 32];
+//! assert_eq!(words::batch(machine, &mut memory, &mut ledger, &calls, &mut answers), words::DONE);
+//! assert_eq!(answers[..2], [0, 8]);
+//! ```
+
+use crate::machine::Machine;
+
+/// The answer of a service that did its work.
+pub const DONE: u32 = 0;
+/// The answer where numbers or lengths do not fit, or acceptance says no.
+pub const UNFIT: u32 = 18;
+/// Words in a frame, a page or a table.
+pub const FRAME: usize = 1024;
+/// Words in the ledger's header, in a page's record, in a call or an answer.
+pub const RECORD: usize = 32;
+/// The most calls in a batch.
+pub const MOST_CALLS: usize = 512;
+
+/// As in `include/monitor.h`. A slice is a pointer and a count of words; the
+/// library reads and writes within the slices, for as long as a call takes.
+mod c {
+    extern "C" {
+        pub fn monitor_boot(
+            frames: u32,
+            secure: u32,
+            pages: u32,
+            monitor: u32,
+            monitors: u32,
+            key: *const u32,
+            key_words: usize,
+            memory: *mut u32,
+            memory_words: usize,
+            ledger: *mut u32,
+            ledger_words: usize,
+        ) -> u32;
+
+        pub fn monitor_accepts(
+            frames: u32,
+            secure: u32,
+            pages: u32,
+            monitor: u32,
+            monitors: u32,
+            memory: *const u32,
+            memory_words: usize,
+            ledger: *const u32,
+            ledger_words: usize,
+        ) -> bool;
+
+        pub fn monitor_batch(
+            frames: u32,
+            secure: u32,
+            pages: u32,
+            monitor: u32,
+            monitors: u32,
+            memory: *mut u32,
+            memory_words: usize,
+            ledger: *mut u32,
+            ledger_words: usize,
+            calls: *const u32,
+            calls_words: usize,
+            answers: *mut u32,
+            answers_words: usize,
+        ) -> u32;
+    }
+}
+
+/// Boot: a fresh ledger with all pages free and this key of 8 words, secure
+/// frames zero, other frames unchanged. [`DONE`] or [`UNFIT`].
+pub fn boot(m: Machine, key: &[u32], memory: &mut [u32], ledger: &mut [u32]) -> u32 {
+    // SAFETY: pointers and lengths are those of live slices; what is written
+    // is borrowed alone, so that nothing overlaps it.
+    unsafe {
+        c::monitor_boot(
+            m.frames,
+            m.secure,
+            m.pages,
+            m.monitor,
+            m.monitors,
+            key.as_ptr(),
+            key.len(),
+            memory.as_mut_ptr(),
+            memory.len(),
+            ledger.as_mut_ptr(),
+            ledger.len(),
+        )
+    }
+}
+
+/// Acceptance: whether these words are in order. Nothing is written.
+pub fn accepts(m: Machine, memory: &[u32], ledger: &[u32]) -> bool {
+    // SAFETY: pointers and lengths are those of live slices.
+    unsafe {
+        c::monitor_accepts(
+            m.frames,
+            m.secure,
+            m.pages,
+            m.monitor,
+            m.monitors,
+            memory.as_ptr(),
+            memory.len(),
+            ledger.as_ptr(),
+            ledger.len(),
+        )
+    }
+}
+
+/// A batch of up to 512 call records of 32 words; `answers` is as long as
+/// `calls`. [`DONE`], or [`UNFIT`] and every word stays as it was.
+pub fn batch(
+    m: Machine,
+    memory: &mut [u32],
+    ledger: &mut [u32],
+    calls: &[u32],
+    answers: &mut [u32],
+) -> u32 {
+    // SAFETY: as for `boot`.
+    unsafe {
+        c::monitor_batch(
+            m.frames,
+            m.secure,
+            m.pages,
+            m.monitor,
+            m.monitors,
+            memory.as_mut_ptr(),
+            memory.len(),
+            ledger.as_mut_ptr(),
+            ledger.len(),
+            calls.as_ptr(),
+            calls.len(),
+            answers.as_mut_ptr(),
+            answers.len(),
+        )
+    }
+}

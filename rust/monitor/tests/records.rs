@@ -1,0 +1,201 @@
+//! Calls, answers and pages to words and back, both ways round.
+
+use monitor::{words, Answer, Call, Machine, Mapping, Page, Record, Refusal, Registers};
+use second::calls::{by_number, CALLS};
+use second::random::{next_call, Rng, View};
+
+const SHIFT: Machine = Machine { frames: 30, secure: 7, pages: 14, monitor: 25, monitors: 2 };
+
+fn record(rng: &mut Rng, words: usize) -> Record {
+    std::array::from_fn(|place| if place < words { rng.word() } else { 0 })
+}
+
+/// Words drawn around the table: known and unknown numbers, a word too many.
+fn any_call(rng: &mut Rng) -> Record {
+    let row = &CALLS[rng.below(CALLS.len() as u32) as usize];
+    let (number, arguments) = (row.number, row.arguments);
+    let extra = if rng.once_in(4) { rng.below(31 - arguments as u32) as usize } else { 0 };
+    let mut words = record(rng, 1 + arguments + extra);
+    words[0] = if rng.once_in(8) { rng.word() >> rng.below(32) } else { number };
+    words
+}
+
+#[test]
+fn numbers_and_names_are_those_of_the_table() {
+    assert_eq!(Call::NUMBERS, CALLS.map(|call| call.number));
+    for row in &CALLS {
+        let mut words = [0; 32];
+        words[0] = row.number;
+        let call = Call::decode(&words).expect(row.name);
+        assert_eq!((call.number(), call.name()), (row.number, row.name));
+        assert_eq!(call.to_string().split(' ').count(), 1 + row.arguments);
+    }
+}
+
+#[test]
+fn a_call_is_read_exactly_where_its_record_is_good() {
+    let mut rng = Rng::new(1);
+    for _ in 0..20_000 {
+        let words = any_call(&mut rng);
+        let rest = |arguments: usize| words[1 + arguments..].iter().all(|word| *word == 0);
+        let good = by_number(words[0]).is_some_and(|row| rest(row.arguments));
+        let call = Call::decode(&words);
+        assert_eq!(call.is_some(), good, "{words:?}");
+        if let Some(call) = call {
+            assert_eq!(call.encode(), words);
+            assert_eq!(Call::decode(&call.encode()), Some(call));
+        }
+    }
+}
+
+#[test]
+fn refusals_have_the_codes_of_the_table() {
+    let mut codes: Vec<u32> = second::shift::MEANINGS.iter().map(|(code, _)| *code).collect();
+    codes.retain(|code| ![0, 32, 33].contains(code));
+    assert_eq!(Refusal::ALL.map(Refusal::code)[..], codes);
+    for code in 0..100 {
+        assert_eq!(Refusal::from_code(code).is_some(), codes.contains(&code));
+    }
+    let mut texts: Vec<String> = Refusal::ALL.iter().map(Refusal::to_string).collect();
+    texts.sort();
+    texts.dedup();
+    assert_eq!(texts.len(), Refusal::ALL.len(), "each reason has its own words");
+}
+
+fn answers(rng: &mut Rng) -> Vec<(Call, Answer)> {
+    let registers = Registers { r: [rng.word(); 16], flags: rng.word() };
+    let eight = std::array::from_fn(|_| rng.word());
+    vec![
+        (Call::GetPhysPages, Answer::Pages(rng.word())),
+        (Call::FreePages, Answer::Free { count: rng.word(), lowest: rng.word() }),
+        (Call::Stop { space: 0 }, Answer::Done),
+        (Call::Enter { thread: 0, x: 0, y: 0, z: 0 }, Answer::Runs(registers)),
+        (Call::Resume { thread: 0 }, Answer::Runs(registers)),
+        (Call::GetRandom { word: 0 }, Answer::Random(rng.word())),
+        (Call::Attest { data: [0; 8] }, Answer::Attested(eight)),
+        (Call::Verify { data: [0; 8], measurement: [0; 8], mac: [0; 8] }, Answer::Verified(true)),
+        (Call::Verify { data: [0; 8], measurement: [0; 8], mac: [0; 8] }, Answer::Verified(false)),
+        (Call::Exit { value: 0 }, Answer::Exited(rng.word())),
+        (Call::Load { address: 0 }, Answer::Loaded(rng.word())),
+        (Call::Load { address: 0 }, Answer::Faulted),
+        (Call::Interrupt { registers }, Answer::Interrupted),
+        (Call::Fault, Answer::Faulted),
+    ]
+}
+
+#[test]
+fn answers_there_and_back() {
+    let mut rng = Rng::new(2);
+    for _ in 0..200 {
+        for (call, answer) in answers(&mut rng) {
+            assert_eq!(Answer::decode(&call, &answer.encode()), Some(answer));
+        }
+    }
+    for refusal in Refusal::ALL {
+        let answer = Answer::Refused(refusal);
+        assert_eq!(Answer::decode(&Call::FreePages, &answer.encode()), Some(answer));
+    }
+}
+
+/// Words that answer no call of this kind.
+#[test]
+fn strange_answers_are_none() {
+    let verify = Call::Verify { data: [0; 8], measurement: [0; 8], mac: [0; 8] };
+    for (call, words) in [
+        (Call::FreePages, vec![18]),
+        (Call::FreePages, vec![20]),
+        (Call::FreePages, vec![2, 1]),
+        (Call::FreePages, vec![0, 1, 2, 3]),
+        (Call::Fault, vec![0]),
+        (Call::Fault, vec![33, 1]),
+        (verify, vec![0, 2]),
+        (Call::Stop { space: 0 }, vec![0, 1]),
+    ] {
+        let mut record = [0; 32];
+        record[..words.len()].copy_from_slice(&words);
+        assert_eq!(Answer::decode(&call, &record), None, "{call} {words:?}");
+    }
+}
+
+#[test]
+fn pages_there_and_back() {
+    let mut rng = Rng::new(3);
+    let mut read = 0;
+    for _ in 0..50_000 {
+        let named = rng.pick(&[1, 2, 3, 4, 6, 14, 21, 22]);
+        let mut words = record(&mut rng, named);
+        words[0] = rng.below(8);
+        if rng.once_in(2) {
+            words[3] = rng.below(4);
+        }
+        if let Some(page) = Page::decode(&words) {
+            assert_eq!(page.encode(), words);
+            assert_eq!(Page::decode(&page.encode()), Some(page));
+            read += 1;
+        }
+    }
+    assert!(read > 5_000, "{read}");
+}
+
+#[test]
+fn mappings_answer_for_themselves() {
+    let mut rng = Rng::new(4);
+    for _ in 0..20_000 {
+        let word = rng.word() & rng.word() & rng.pick(&[u32::MAX, 0x3fff_f007]);
+        let (ours, second) = (Mapping::from_word(word), second::mapping::Mapping(word));
+        assert_eq!(ours.is_well_formed(), second.well_formed());
+        assert_eq!((ours.index(), ours.slot()), (second.index() as u32, second.slot() as u32));
+        assert_eq!((ours.address(), ours.executes()), (second.address(), second.executes()));
+        if ours.is_well_formed() {
+            let mut again = Mapping::new(ours.index(), ours.slot());
+            again = if ours.writes() { again.writable() } else { again };
+            again = if ours.executes() { again.executable() } else { again };
+            assert_eq!(again, ours);
+        }
+    }
+}
+
+fn fits(machine: Machine) -> bool {
+    let Machine { frames, secure, pages, monitor, monitors } = machine;
+    second::Machine { frames, secure, pages, monitor, monitors }.fits()
+}
+
+#[test]
+fn machines_fit_near_the_limits() {
+    let near = [0, 1, 2, 3, u32::MAX - 1, u32::MAX];
+    for frames in [0, 1, 2, 3, 4, 4096, 4097, u32::MAX] {
+        for secure in near {
+            for pages in near.into_iter().chain([256, 257]) {
+                for monitor in near {
+                    for monitors in near {
+                        let machine = Machine { frames, secure, pages, monitor, monitors };
+                        assert_eq!(machine.fits(), fits(machine), "{machine:?}");
+                    }
+                }
+            }
+        }
+    }
+}
+
+/// Every record that a long shift meets has its typed form.
+#[test]
+fn a_shift_in_types() {
+    let Machine { frames, secure, pages, monitor, monitors } = SHIFT;
+    let machine = second::Machine { frames, secure, pages, monitor, monitors };
+    let mut rng = Rng::new(5);
+    let (mut memory, mut ledger) = second::random::fresh(&mut rng, machine);
+    for _ in 0..3_000 {
+        let call = next_call(&mut rng, View { machine, memory: &memory, ledger: &ledger });
+        let mut answer = [0; 32];
+        assert_eq!(words::batch(SHIFT, &mut memory, &mut ledger, &call, &mut answer), words::DONE);
+        match Call::decode(&call) {
+            Some(typed) => {
+                let read = Answer::decode(&typed, &answer).expect("an answer of the call's row");
+                assert_eq!((typed.encode(), read.encode()), (call, answer));
+            }
+            None => assert_eq!(answer[0], Refusal::BadRecord.code()),
+        }
+        let pages = monitor::Ledger::over(&ledger[..]);
+        assert!(pages.pages().all(|page| page.is_some()));
+    }
+}

@@ -1,0 +1,108 @@
+//! Plans that are good: their forms, and their answers against those of the
+//! second program.
+
+mod common;
+
+use common::{play, Folder};
+use play::plan::read;
+
+fn words(text: &str) -> Vec<Vec<u32>> {
+    let items = read(text.as_bytes()).expect(text);
+    items.iter().map(|item| item.words().to_vec()).collect()
+}
+
+#[test]
+fn forms() {
+    let two = vec![vec![2, 0, 1], vec![13]];
+    for text in [
+        "2 0 1;13;",
+        "2 0 1; 13;",
+        "2 0 1;\n13;\n",
+        "\n\n  2\n0\n1\n;\n\n13 ;  ",
+        "2   0   1   ;   13   ;",
+        "002 00 01; 0013;",
+    ] {
+        assert_eq!(words(text), two, "{text:?}");
+    }
+    assert_eq!(words(""), Vec::<Vec<u32>>::new());
+    assert_eq!(words(" \n \n"), Vec::<Vec<u32>>::new());
+    assert_eq!(words("4294967295 4294967295;"), [[u32::MAX, u32::MAX]]);
+    let most = format!("34{};", " 7".repeat(31));
+    assert_eq!(words(&most)[0].len(), 32);
+}
+
+#[test]
+fn items_know_their_lines() {
+    let items = read(b"1;\n\n 2 0\n 1; 13;\n").expect("good");
+    assert_eq!(items.iter().map(|item| item.line).collect::<Vec<_>>(), [1, 3, 4]);
+    assert_eq!(items[1].to_string(), "InitAddrSpace 0 1");
+}
+
+/// The second program's cases as a plan; its box and memory are the same.
+fn cases() -> String {
+    let line = |row: &&[u32]| {
+        let words: Vec<String> = row.iter().map(u32::to_string).collect();
+        words.join(" ") + ";\n"
+    };
+    second::cases::CASES.iter().map(line).collect()
+}
+
+fn run(text: &str, options: &[&str]) -> String {
+    let folder = Folder::new(&format!("good-{}-{}", text.len(), options.len()));
+    std::fs::write(folder.0.join("plan"), text).expect("written");
+    let out = play(&folder, &[&["run", "plan"], options].concat());
+    assert!(out.status.success() && out.stderr.is_empty(), "{out:?}");
+    String::from_utf8(out.stdout).expect("UTF-8")
+}
+
+#[test]
+fn a_long_plan_answers_as_the_second_program_does() {
+    let printed = run(&cases(), &["--json"]);
+    let answers = second::shift::answers();
+    assert_eq!(printed.lines().count(), answers.len());
+    for (line, (row, (call, answer))) in printed.lines().zip((1..).zip(answers)) {
+        let start = format!("{{\"row\":{row},\"line\":{row},\"call\":{},", call[0]);
+        assert!(line.starts_with(&start), "{line}");
+        assert!(line.contains(&format!("\"code\":{},", answer[0])), "{line}");
+        let values = line.split("\"values\":[").nth(1).expect("values").trim_end_matches("]}");
+        let values: Vec<u32> =
+            values.split(',').filter(|word| !word.is_empty()).map(|w| w.parse().unwrap()).collect();
+        assert_eq!(values, answer[1..=values.len()], "{line}");
+        assert!(answer[1 + values.len()..].iter().all(|word| *word == 0), "{line}");
+    }
+}
+
+/// More calls than a batch takes.
+#[test]
+fn more_than_a_batch() {
+    let printed = run(&"13; 2 0 1; 11 0; 12 1; 12 0;\n".repeat(300), &["--json"]);
+    assert_eq!(printed.lines().count(), 1500);
+    assert!(printed.lines().all(|line| line.contains("\"code\":0,")));
+}
+
+#[test]
+fn the_table() {
+    let printed = run("2 0 1; 2 0 1 7; 77 1; 13;", &[]);
+    let lines = [
+        " row  call                          code  answer",
+        "   1  InitAddrSpace 0 1                0  done",
+        "   2  InitAddrSpace 0 1 7             19  not the record of a call",
+        "   3  unknown 77 1                    19  not the record of a call",
+        "   4  FreePages                        0  6 free, the lowest is 2",
+        "",
+    ];
+    assert_eq!(printed, lines.join("\n"));
+    assert_eq!(run("", &[]), [lines[0], ""].join("\n"));
+    assert_eq!(run(" ", &["--json"]), "");
+}
+
+#[test]
+fn another_machine_and_key() {
+    let printed = run("1;", &["--machine", "300,0,256,256,1", "--json"]);
+    assert!(printed.contains("\"values\":[256]"), "{printed}");
+    let attest = "2 0 1; 3 0 2 0; 8 0; 9 2; 33 1 2 3 4 5 6 7 8;";
+    let one = run(attest, &[]);
+    let other = run(attest, &["--key", "8,7,6,5,4,3,2,4294967295"]);
+    assert_ne!(one.lines().last(), other.lines().last());
+    assert_eq!(one.lines().nth(4), other.lines().nth(4));
+}

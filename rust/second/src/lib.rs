@@ -1,0 +1,42 @@
+//! The second program: the monitor's rules once more, in plain Rust over
+//! typed pages, written from the build description alone. It shares no line
+//! with the proved program, so that a slip in one is no slip in the other.
+//!
+//! Three services over the lent words, as the build description names them:
+//! [`boot`], [`accepts`] and [`batch`].
+//!
+//! Readings chosen where the description is open:
+//!
+//! - Refusal 4 of calls 6, 7 and 8 means "not building", as in calls 3 and 4;
+//!   only call 5 says "stopped 4".
+//! - A stopped space sets free the memory of its table pages alone. Records
+//!   keep their layout: an index below 256, a well-formed mapping word.
+//! - A batch of no records on a refused state draws 18 all the same.
+//! - A record's arguments are counted by its call's row; every word after
+//!   them must be zero, so a record of zeros (number 0) draws 19.
+//! - A load or a store that faults ends the run with 33 and leaves the thread
+//!   unsuspended, as call 40 does.
+//! - Call 34 answers 0 and then 1 or 0; a wrong MAC is no refusal.
+//! - MapData may ask for the execute right; MapInsecure may not.
+//! - Stop of a stopped space is done once more. Remove of a spare page asks
+//!   nothing of its owner's state.
+
+pub mod accept;
+pub mod calls;
+pub mod cases;
+pub mod direct;
+pub mod ledger;
+pub mod machine;
+pub mod mapping;
+pub mod random;
+pub mod sha;
+pub mod shift;
+pub mod vectors;
+
+mod enclave;
+mod host;
+mod monitor;
+mod service;
+
+pub use machine::Machine;
+pub use service::{accepts, batch, boot, DONE, UNFIT};

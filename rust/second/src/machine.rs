@@ -1,0 +1,80 @@
+//! The machine numbers: which frames there are and whose they are.
+
+/// Words in a frame, a page or a table.
+pub const FRAME_WORDS: usize = 1024;
+
+/// The numbers F, s, n, m and k of the build description.
+#[derive(Clone, Copy, Debug, PartialEq, Eq)]
+pub struct Machine {
+    /// F: all frames.
+    pub frames: u32,
+    /// s: the first secure frame.
+    pub secure: u32,
+    /// n: the number of secure pages.
+    pub pages: u32,
+    /// m: the first monitor frame.
+    pub monitor: u32,
+    /// k: the number of monitor frames.
+    pub monitors: u32,
+}
+
+/// Frames `first` to `first + count - 1`, in 64 bits because a caller may
+/// hand us numbers whose sum would wrap in 32.
+fn range(first: u32, count: u32) -> std::ops::Range<u64> {
+    u64::from(first)..u64::from(first) + u64::from(count)
+}
+
+impl Machine {
+    /// Whether the numbers keep the rules of the box.
+    pub fn fits(&self) -> bool {
+        let secure = range(self.secure, self.pages);
+        let monitor = range(self.monitor, self.monitors);
+        let all = u64::from(self.frames);
+        (1..=4096).contains(&self.frames)
+            && (1..=256).contains(&self.pages)
+            && self.monitors >= 1
+            && secure.end <= all
+            && monitor.end <= all
+            && (secure.end <= monitor.start || monitor.end <= secure.start)
+    }
+
+    /// Neither secure nor the monitor's own, and below F.
+    pub fn is_insecure(&self, frame: u32) -> bool {
+        let frame64 = u64::from(frame);
+        frame < self.frames
+            && !range(self.secure, self.pages).contains(&frame64)
+            && !range(self.monitor, self.monitors).contains(&frame64)
+    }
+
+    /// The secure page in this frame, if it is a secure frame.
+    pub fn page_in(&self, frame: u32) -> Option<usize> {
+        let page = frame.checked_sub(self.secure)?;
+        (page < self.pages).then_some(page as usize)
+    }
+
+    /// The frame of secure page `page`.
+    pub fn frame_of(&self, page: usize) -> usize {
+        self.secure as usize + page
+    }
+
+    /// n, as a length.
+    pub fn page_count(&self) -> usize {
+        self.pages as usize
+    }
+
+    /// How many words of memory this machine lends.
+    pub fn memory_words(&self) -> usize {
+        self.frames as usize * FRAME_WORDS
+    }
+
+    /// How many words of ledger this machine lends.
+    pub fn ledger_words(&self) -> usize {
+        32 + 32 * self.page_count()
+    }
+
+    /// Where the words of secure page `page` stand in the memory.
+    pub fn words_of(&self, page: usize) -> std::ops::Range<usize> {
+        let start = self.frame_of(page) * FRAME_WORDS;
+        start..start + FRAME_WORDS
+    }
+}

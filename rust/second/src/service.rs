@@ -1,0 +1,64 @@
+//! The three services over lent words.
+
+use crate::accept::accepted;
+use crate::calls::record;
+use crate::ledger::Ledger;
+use crate::machine::Machine;
+use crate::monitor::Monitor;
+
+/// The answer of Boot and of a batch that was obeyed.
+pub const DONE: u32 = 0;
+/// The answer when numbers or lengths do not fit, or a state is not accepted.
+pub const UNFIT: u32 = 18;
+
+/// Words in a call record and in an answer record.
+const RECORD: usize = 32;
+/// The longest batch.
+const MOST_RECORDS: usize = 512;
+
+fn lent_fits(machine: Machine, memory: &[u32], ledger: &[u32]) -> bool {
+    machine.fits()
+        && memory.len() == machine.memory_words()
+        && ledger.len() == machine.ledger_words()
+}
+
+/// Boot: a fresh ledger with all pages free, secure frames zero.
+pub fn boot(m: Machine, key: &[u32], mem: &mut [u32], led: &mut [u32]) -> u32 {
+    let Ok(key) = key.try_into() else { return UNFIT };
+    if !lent_fits(m, mem, led) {
+        return UNFIT;
+    }
+    led.copy_from_slice(&Ledger::fresh(m.page_count(), key).encode());
+    for page in 0..m.page_count() {
+        mem[m.words_of(page)].fill(0);
+    }
+    DONE
+}
+
+/// Acceptance: yes or no, and nothing is written.
+pub fn accepts(m: Machine, mem: &[u32], led: &[u32]) -> bool {
+    lent_fits(m, mem, led) && accepted(m, mem, led).is_some()
+}
+
+/// A batch: all is checked first, then the records are obeyed in order.
+pub fn batch(
+    m: Machine,
+    mem: &mut [u32],
+    led: &mut [u32],
+    calls: &[u32],
+    answers: &mut [u32],
+) -> u32 {
+    let list_fits = calls.len().is_multiple_of(RECORD)
+        && calls.len() <= MOST_RECORDS * RECORD
+        && answers.len() == calls.len();
+    if !list_fits || !lent_fits(m, mem, led) {
+        return UNFIT;
+    }
+    let Some(ledger) = accepted(m, mem, led) else { return UNFIT };
+    let mut monitor = Monitor { machine: m, ledger, memory: mem };
+    for (call, answer) in calls.chunks_exact(RECORD).zip(answers.chunks_exact_mut(RECORD)) {
+        answer.copy_from_slice(&record(&monitor.obey(call)));
+    }
+    led.copy_from_slice(&monitor.ledger.encode());
+    DONE
+}
