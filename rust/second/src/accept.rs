@@ -1,7 +1,8 @@
 //! Acceptance: a plain reading of "What acceptance demands", clause by clause.
 
+use crate::layout::{DATA_BLOCKS, FLAG_BITS, FRAME_WORDS, MOST_TABLES};
 use crate::ledger::{Ledger, Page, Space, State};
-use crate::machine::{Machine, FRAME_WORDS};
+use crate::machine::Machine;
 use crate::mapping::{Leaf, EXECUTE};
 
 /// The typed ledger, if the lent words are accepted. The machine numbers and
@@ -19,8 +20,10 @@ pub fn accepted(machine: Machine, memory: &[u32], words: &[u32]) -> Option<Ledge
 /// The limits of single words that the layout names.
 fn fields_fit(page: &Page) -> bool {
     match page {
-        Page::Thread(thread) => thread.saved.as_ref().is_none_or(|saved| saved.flags << 4 == 0),
-        Page::Second { index, .. } => *index < 256,
+        Page::Thread(thread) => {
+            thread.saved.as_ref().is_none_or(|saved| saved.flags & !FLAG_BITS == 0)
+        }
+        Page::Second { index, .. } => (*index as usize) < MOST_TABLES,
         Page::Data { mapping, .. } => mapping.well_formed(),
         _ => true,
     }
@@ -60,14 +63,14 @@ impl Judge<'_> {
     /// The block count and, while building, that no thread is suspended.
     fn blocks(&self, page: usize, space: &Space) -> bool {
         if space.state != State::Building {
-            return space.blocks <= 65 * self.machine.pages;
+            return space.blocks <= DATA_BLOCKS * self.machine.pages;
         }
         let mut blocks = 0;
         for (_, owned) in self.ledger.owned(page) {
             match owned {
                 Page::Thread(thread) if thread.saved.is_some() => return false,
                 Page::Thread(_) => blocks += 1,
-                Page::Data { .. } => blocks += 65,
+                Page::Data { .. } => blocks += DATA_BLOCKS,
                 _ => {}
             }
         }

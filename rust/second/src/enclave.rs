@@ -1,29 +1,29 @@
 //! Calls 32-42, made by the running thread for its owner.
 
-use crate::calls::{done, Code, Reply};
+use crate::calls::{done, number, Code, Reply};
+use crate::layout::{FLAG_BITS, FRAME_WORDS, HASH_WORDS, REGISTERS};
 use crate::ledger::{Page, Saved};
-use crate::machine::FRAME_WORDS;
-use crate::mapping::{Leaf, Mapping, READ, WRITE};
+use crate::mapping::{Leaf, Mapping, ADDRESSES, READ, WORD_BYTES, WRITE};
 use crate::monitor::Monitor;
 use crate::sha;
 
 impl Monitor<'_> {
     /// One call of the running thread; the words after its arguments were
     /// zero.
-    pub fn enclave(&mut self, thread: usize, number: u32, arguments: &[u32]) -> Reply {
+    pub fn enclave(&mut self, thread: usize, call: u32, arguments: &[u32]) -> Reply {
         let owner = self.thread(thread).owner;
-        match (number, arguments) {
-            (32, &[w]) => Ok(vec![w]),
-            (33, data) => Ok(self.attest(owner, data)),
-            (34, words) => Ok(self.verify(words)),
-            (35, &[p, i]) => self.spare_to_table(owner, p, i),
-            (36, &[p, map]) => self.map_data(owner, p, map),
-            (37, &[p]) => self.unmap_data(owner, p),
-            (38, &[v]) => Ok(self.exit(v)),
-            (39, words) => Err(self.interrupt(thread, words)),
-            (40, []) => Err(self.fault()),
-            (41, &[va]) => self.load(owner, va),
-            (42, &[va, w]) => self.store(owner, va, w),
+        match (call, arguments) {
+            (number::GET_RANDOM, &[w]) => Ok(vec![w]),
+            (number::ATTEST, data) => Ok(self.attest(owner, data)),
+            (number::VERIFY, words) => Ok(self.verify(words)),
+            (number::SPARE_TABLE, &[p, i]) => self.spare_to_table(owner, p, i),
+            (number::MAP_DATA, &[p, map]) => self.map_data(owner, p, map),
+            (number::UNMAP_DATA, &[p]) => self.unmap_data(owner, p),
+            (number::EXIT, &[v]) => Ok(self.exit(v)),
+            (number::INTERRUPT, words) => Err(self.interrupt(thread, words)),
+            (number::FAULT, []) => Err(self.fault()),
+            (number::LOAD, &[va]) => self.load(owner, va),
+            (number::STORE, &[va, w]) => self.store(owner, va, w),
             _ => Err(Code::BadRecord),
         }
     }
@@ -33,8 +33,8 @@ impl Monitor<'_> {
     }
 
     fn verify(&self, words: &[u32]) -> Vec<u32> {
-        let (data, rest) = words.split_at(8);
-        let (measurement, mac) = rest.split_at(8);
+        let (data, rest) = words.split_at(HASH_WORDS);
+        let (measurement, mac) = rest.split_at(HASH_WORDS);
         let good = sha::mac(&self.ledger.key, measurement, data) == mac;
         vec![u32::from(good)]
     }
@@ -84,7 +84,7 @@ impl Monitor<'_> {
 
     fn interrupt(&mut self, thread: usize, words: &[u32]) -> Code {
         let registers = std::array::from_fn(|i| words[i]);
-        let flags = words[16] & 0xf000_0000;
+        let flags = words[REGISTERS] & FLAG_BITS;
         self.thread_mut(thread).saved = Some(Saved { registers, flags });
         self.ledger.running = None;
         Code::Interrupted
@@ -115,11 +115,11 @@ impl Monitor<'_> {
     /// Where the word at this address stands in the memory, if the address
     /// is good and mapped with the right.
     fn translate(&self, owner: usize, va: u32, right: u32) -> Option<usize> {
-        if !va.is_multiple_of(4) || va >= 1 << 30 {
+        if !va.is_multiple_of(WORD_BYTES) || va >= ADDRESSES {
             return None;
         }
         let leaf = Leaf::read(self.memory[self.slot(owner, Mapping(va))?])?;
-        let word = (va as usize / 4) % FRAME_WORDS;
+        let word = (va / WORD_BYTES) as usize % FRAME_WORDS;
         (leaf.rights & right != 0).then_some(leaf.frame as usize * FRAME_WORDS + word)
     }
 }

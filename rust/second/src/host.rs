@@ -1,36 +1,40 @@
 //! Calls 1-13, made by the host while no thread runs.
 
-use crate::calls::{done, Code, Reply};
+use crate::calls::{done, number, Code, Reply};
+use crate::layout::{BLOCK_WORDS, FRAME_WORDS, REGISTERS, SAVED_WORDS};
 use crate::ledger::{Page, Space, State, Thread};
-use crate::machine::FRAME_WORDS;
 use crate::mapping::{Leaf, Mapping};
 use crate::monitor::Monitor;
 use crate::sha;
 
+/// What the first block of a measured record starts with.
+const THREAD_HEAD: u32 = 1;
+const DATA_HEAD: u32 = 2;
+
 /// The first block of a measured record: kind and one word, then zeros.
-fn head(kind: u32, word: u32) -> [u32; 16] {
-    let mut block = [0; 16];
+fn head(kind: u32, word: u32) -> [u32; BLOCK_WORDS] {
+    let mut block = [0; BLOCK_WORDS];
     block[..2].copy_from_slice(&[kind, word]);
     block
 }
 
 impl Monitor<'_> {
     /// One call of the host; the words after its arguments were zero.
-    pub fn host(&mut self, number: u32, arguments: &[u32]) -> Reply {
-        match (number, arguments) {
-            (1, []) => Ok(vec![self.machine.pages]),
-            (2, &[a, f]) => self.init_addr_space(a, f),
-            (3, &[a, t, entry]) => self.init_thread(a, t, entry),
-            (4, &[a, p, i]) => self.init_table(a, p, i),
-            (5, &[a, p]) => self.alloc_spare(a, p),
-            (6, &[a, p, map, frame]) => self.map_secure(a, p, map, frame),
-            (7, &[a, map, frame]) => self.map_insecure(a, map, frame),
-            (8, &[a]) => self.finalise(a),
-            (9, &[t, x, y, z]) => self.enter(t, [x, y, z]),
-            (10, &[t]) => self.resume(t),
-            (11, &[a]) => self.stop(a),
-            (12, &[p]) => self.remove(p),
-            (13, []) => Ok(self.free_pages()),
+    pub fn host(&mut self, call: u32, arguments: &[u32]) -> Reply {
+        match (call, arguments) {
+            (number::GET_PHYS_PAGES, []) => Ok(vec![self.machine.pages]),
+            (number::INIT_ADDR_SPACE, &[a, f]) => self.init_addr_space(a, f),
+            (number::INIT_THREAD, &[a, t, entry]) => self.init_thread(a, t, entry),
+            (number::INIT_TABLE, &[a, p, i]) => self.init_table(a, p, i),
+            (number::ALLOC_SPARE, &[a, p]) => self.alloc_spare(a, p),
+            (number::MAP_SECURE, &[a, p, map, frame]) => self.map_secure(a, p, map, frame),
+            (number::MAP_INSECURE, &[a, map, frame]) => self.map_insecure(a, map, frame),
+            (number::FINALISE, &[a]) => self.finalise(a),
+            (number::ENTER, &[t, x, y, z]) => self.enter(t, [x, y, z]),
+            (number::RESUME, &[t]) => self.resume(t),
+            (number::STOP, &[a]) => self.stop(a),
+            (number::REMOVE, &[p]) => self.remove(p),
+            (number::FREE_PAGES, []) => Ok(self.free_pages()),
             _ => Err(Code::BadRecord),
         }
     }
@@ -53,7 +57,7 @@ impl Monitor<'_> {
         let owner = self.building(a)?;
         let thread = self.free_page(t)?;
         self.ledger.pages[thread] = Page::Thread(Thread { owner, entry, saved: None });
-        self.measure(owner, &head(1, entry));
+        self.measure(owner, &head(THREAD_HEAD, entry));
         done()
     }
 
@@ -86,7 +90,7 @@ impl Monitor<'_> {
         self.memory[self.machine.words_of(data)].copy_from_slice(&copied);
         self.memory[place] = self.leaf(data, mapping);
         self.ledger.pages[data] = Page::Data { owner, mapping };
-        self.measure(owner, &head(2, mapping.address()));
+        self.measure(owner, &head(DATA_HEAD, mapping.address()));
         self.measure(owner, &copied);
         done()
     }
@@ -134,9 +138,9 @@ impl Monitor<'_> {
         if thread.saved.is_some() {
             return Err(Code::Suspended);
         }
-        let mut values = vec![0; 17];
+        let mut values = vec![0; SAVED_WORDS];
         values[..3].copy_from_slice(&start);
-        values[15] = thread.entry;
+        values[REGISTERS - 1] = thread.entry;
         self.ledger.running = Some(page);
         Ok(values)
     }

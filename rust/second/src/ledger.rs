@@ -4,11 +4,12 @@
 //! space being its own owner) is not kept: [`Ledger::encode`] works it out
 //! afresh, so a ledger is in order only if encoding gives back its words.
 
+use crate::layout::{
+    free_bit, kind, record_of, state, word, HEADER_WORDS, KEY_START, MAP_START, RECORD_WORDS,
+    REGISTERS, RUNNING,
+};
 use crate::mapping::Mapping;
 use crate::sha::Hash;
-
-/// Words in the header and in each page's record.
-pub const RECORD_WORDS: usize = 32;
 
 /// How far an address space has come.
 #[derive(Clone, Copy, Debug, PartialEq, Eq)]
@@ -38,7 +39,7 @@ pub struct Space {
 #[derive(Clone, Debug, PartialEq, Eq)]
 pub struct Saved {
     /// r0-r15.
-    pub registers: [u32; 16],
+    pub registers: [u32; REGISTERS],
     /// Flags, in the top 4 bits.
     pub flags: u32,
 }
@@ -78,20 +79,21 @@ pub struct Ledger {
     pub pages: Vec<Page>,
 }
 
-fn eight(words: &[u32]) -> Hash {
+fn hash(words: &[u32]) -> Hash {
     std::array::from_fn(|i| words[i])
 }
 
 impl State {
     fn decode(word: u32) -> Option<State> {
-        [State::Building, State::Final, State::Stopped].get(word as usize).copied()
+        let all = [State::Building, State::Final, State::Stopped];
+        all.into_iter().find(|state| state.encode() == word)
     }
 
     fn encode(self) -> u32 {
         match self {
-            State::Building => 0,
-            State::Final => 1,
-            State::Stopped => 2,
+            State::Building => state::BUILDING,
+            State::Final => state::FINAL,
+            State::Stopped => state::STOPPED,
         }
     }
 }
@@ -99,39 +101,39 @@ impl State {
 impl Space {
     fn decode(record: &[u32]) -> Option<Space> {
         Some(Space {
-            first: record[2] as usize,
-            state: State::decode(record[3])?,
-            blocks: record[5],
-            hash: eight(&record[6..14]),
+            first: record[word::FIRST] as usize,
+            state: State::decode(record[word::STATE])?,
+            blocks: record[word::BLOCKS],
+            hash: hash(&record[word::HASH..word::HASH_END]),
         })
     }
 
     fn encode(&self, count: usize, record: &mut [u32]) {
-        record[2] = self.first as u32;
-        record[3] = self.state.encode();
-        record[4] = count as u32;
-        record[5] = self.blocks;
-        record[6..14].copy_from_slice(&self.hash);
+        record[word::FIRST] = self.first as u32;
+        record[word::STATE] = self.state.encode();
+        record[word::COUNT] = count as u32;
+        record[word::BLOCKS] = self.blocks;
+        record[word::HASH..word::HASH_END].copy_from_slice(&self.hash);
     }
 }
 
 impl Thread {
     fn decode(record: &[u32]) -> Option<Thread> {
-        let registers = std::array::from_fn(|i| record[4 + i]);
-        let saved = match record[3] {
+        let registers = std::array::from_fn(|i| record[word::SAVED + i]);
+        let saved = match record[word::SUSPENDED] {
             0 => None,
-            1 => Some(Saved { registers, flags: record[20] }),
+            1 => Some(Saved { registers, flags: record[word::FLAGS] }),
             _ => return None,
         };
-        Some(Thread { owner: record[1] as usize, entry: record[2], saved })
+        Some(Thread { owner: record[word::OWNER] as usize, entry: record[word::ENTRY], saved })
     }
 
     fn encode(&self, record: &mut [u32]) {
-        record[2] = self.entry;
+        record[word::ENTRY] = self.entry;
         if let Some(saved) = &self.saved {
-            record[3] = 1;
-            record[4..20].copy_from_slice(&saved.registers);
-            record[20] = saved.flags;
+            record[word::SUSPENDED] = 1;
+            record[word::SAVED..word::FLAGS].copy_from_slice(&saved.registers);
+            record[word::FLAGS] = saved.flags;
         }
     }
 }
@@ -139,15 +141,15 @@ impl Thread {
 impl Page {
     /// The page of a record, by the words its type names.
     fn decode(record: &[u32]) -> Option<Page> {
-        let owner = record[1] as usize;
-        Some(match record[0] {
-            0 => Page::Free,
-            1 => Page::Space(Space::decode(record)?),
-            2 => Page::Thread(Thread::decode(record)?),
-            3 => Page::First { owner },
-            4 => Page::Second { owner, index: record[2] },
-            5 => Page::Data { owner, mapping: Mapping(record[2]) },
-            6 => Page::Spare { owner },
+        let owner = record[word::OWNER] as usize;
+        Some(match record[word::TYPE] {
+            kind::FREE => Page::Free,
+            kind::SPACE => Page::Space(Space::decode(record)?),
+            kind::THREAD => Page::Thread(Thread::decode(record)?),
+            kind::FIRST => Page::First { owner },
+            kind::SECOND => Page::Second { owner, index: record[word::INDEX] },
+            kind::DATA => Page::Data { owner, mapping: Mapping(record[word::MAPPING]) },
+            kind::SPARE => Page::Spare { owner },
             _ => return None,
         })
     }
@@ -155,13 +157,13 @@ impl Page {
     /// The type's number.
     fn number(&self) -> u32 {
         match self {
-            Page::Free => 0,
-            Page::Space(_) => 1,
-            Page::Thread(_) => 2,
-            Page::First { .. } => 3,
-            Page::Second { .. } => 4,
-            Page::Data { .. } => 5,
-            Page::Spare { .. } => 6,
+            Page::Free => kind::FREE,
+            Page::Space(_) => kind::SPACE,
+            Page::Thread(_) => kind::THREAD,
+            Page::First { .. } => kind::FIRST,
+            Page::Second { .. } => kind::SECOND,
+            Page::Data { .. } => kind::DATA,
+            Page::Spare { .. } => kind::SPARE,
         }
     }
 
@@ -187,11 +189,11 @@ impl Ledger {
 
     /// Reads the words the layout names; the others are not looked at here.
     pub fn decode(words: &[u32]) -> Option<Ledger> {
-        let mut records = words.chunks_exact(RECORD_WORDS);
-        let header = records.next()?;
+        let (header, records) = words.split_at_checked(HEADER_WORDS)?;
+        let records = records.chunks_exact(RECORD_WORDS);
         Some(Ledger {
-            running: header[0].checked_sub(1).map(|page| page as usize),
-            key: eight(&header[1..9]),
+            running: header[RUNNING].checked_sub(1).map(|page| page as usize),
+            key: hash(&header[KEY_START..MAP_START]),
             pages: records.map(Page::decode).collect::<Option<Vec<Page>>>()?,
         })
     }
@@ -199,37 +201,38 @@ impl Ledger {
     /// The words of this ledger: the only ones, since all that the layout
     /// leaves no choice about is worked out here.
     pub fn encode(&self) -> Vec<u32> {
-        let mut words = vec![0; RECORD_WORDS * (1 + self.pages.len())];
+        let mut words = vec![0; HEADER_WORDS + RECORD_WORDS * self.pages.len()];
         let counts = self.owned_counts();
         self.encode_header(&mut words);
         for (number, page) in self.pages.iter().enumerate() {
-            let record = &mut words[RECORD_WORDS * (1 + number)..][..RECORD_WORDS];
+            let record = &mut words[record_of(number)];
             self.encode_page(number, page, counts[number], record);
         }
         words
     }
 
     fn encode_header(&self, words: &mut [u32]) {
-        words[0] = self.running.map_or(0, |page| page as u32 + 1);
-        words[1..9].copy_from_slice(&self.key);
+        words[RUNNING] = self.running.map_or(0, |page| page as u32 + 1);
+        words[KEY_START..MAP_START].copy_from_slice(&self.key);
         for (number, page) in self.pages.iter().enumerate() {
             if *page == Page::Free {
-                words[9 + number / 32] |= 1 << (number % 32);
+                let (word, bit) = free_bit(number);
+                words[word] |= bit;
             }
         }
     }
 
     fn encode_page(&self, number: usize, page: &Page, count: usize, record: &mut [u32]) {
-        record[0] = page.number();
-        record[1] = page.owner().unwrap_or(0) as u32;
+        record[word::TYPE] = page.number();
+        record[word::OWNER] = page.owner().unwrap_or(0) as u32;
         match page {
             Page::Space(space) => {
-                record[1] = number as u32;
+                record[word::OWNER] = number as u32;
                 space.encode(count, record);
             }
             Page::Thread(thread) => thread.encode(record),
-            Page::Second { index, .. } => record[2] = *index,
-            Page::Data { mapping, .. } => record[2] = mapping.0,
+            Page::Second { index, .. } => record[word::INDEX] = *index,
+            Page::Data { mapping, .. } => record[word::MAPPING] = mapping.0,
             Page::Free | Page::First { .. } | Page::Spare { .. } => {}
         }
     }

@@ -25,6 +25,7 @@ pub mod accept;
 pub mod calls;
 pub mod cases;
 pub mod direct;
+pub mod layout;
 pub mod ledger;
 pub mod machine;
 pub mod mapping;

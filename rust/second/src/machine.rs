@@ -1,7 +1,6 @@
 //! The machine numbers: which frames there are and whose they are.
 
-/// Words in a frame, a page or a table.
-pub const FRAME_WORDS: usize = 1024;
+use crate::layout::{FRAME_WORDS, HEADER_WORDS, MOST_FRAMES, MOST_PAGES, RECORD_WORDS};
 
 /// The numbers F, s, n, m and k of the build description.
 #[derive(Clone, Copy, Debug, PartialEq, Eq)]
@@ -30,8 +29,8 @@ impl Machine {
         let secure = range(self.secure, self.pages);
         let monitor = range(self.monitor, self.monitors);
         let all = u64::from(self.frames);
-        (1..=4096).contains(&self.frames)
-            && (1..=256).contains(&self.pages)
+        (1..=MOST_FRAMES).contains(&self.frames)
+            && (1..=MOST_PAGES).contains(&self.pages)
             && self.monitors >= 1
             && secure.end <= all
             && monitor.end <= all
@@ -69,7 +68,7 @@ impl Machine {
 
     /// How many words of ledger this machine lends.
     pub fn ledger_words(&self) -> usize {
-        32 + 32 * self.page_count()
+        HEADER_WORDS + RECORD_WORDS * self.page_count()
     }
 
     /// Where the words of secure page `page` stand in the memory.

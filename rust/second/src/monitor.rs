@@ -1,9 +1,10 @@
 //! The monitor at work: the typed ledger beside the lent memory, the checks
 //! that several calls share, and the way from a record to its call.
 
-use crate::calls::{by_number, Code, Reply};
+use crate::calls::{by_number, number, Code, Reply};
+use crate::layout::{BLOCK_WORDS, FRAME_WORDS, MOST_TABLES};
 use crate::ledger::{Ledger, Page, Space, State, Thread};
-use crate::machine::{Machine, FRAME_WORDS};
+use crate::machine::Machine;
 use crate::mapping::{Leaf, Mapping};
 use crate::sha;
 
@@ -21,7 +22,7 @@ impl Monitor<'_> {
         if rest.iter().any(|word| *word != 0) {
             return Err(Code::BadRecord);
         }
-        match (self.ledger.running, call.number < 32) {
+        match (self.ledger.running, call.number < number::ENCLAVE) {
             (None, true) => self.host(call.number, arguments),
             (Some(thread), false) => self.enclave(thread, call.number, arguments),
             _ => Err(Code::WrongTime),
@@ -65,7 +66,7 @@ impl Monitor<'_> {
 
     /// An index with no table yet: its word in the first-level page.
     pub fn empty_index(&self, space: usize, index: u32) -> Result<usize, Code> {
-        if index >= 256 {
+        if index as usize >= MOST_TABLES {
             return Err(Code::NoSuchIndex);
         }
         let place = self.place(self.space(space).first, index as usize);
@@ -132,6 +133,6 @@ impl Monitor<'_> {
     pub fn measure(&mut self, space: usize, words: &[u32]) {
         let space = self.space_mut(space);
         space.hash = sha::add(space.hash, words);
-        space.blocks += words.len() as u32 / 16;
+        space.blocks += (words.len() / BLOCK_WORDS) as u32;
     }
 }

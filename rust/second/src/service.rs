@@ -2,6 +2,7 @@
 
 use crate::accept::accepted;
 use crate::calls::record;
+use crate::layout::{MOST_CALLS, RECORD_WORDS};
 use crate::ledger::Ledger;
 use crate::machine::Machine;
 use crate::monitor::Monitor;
@@ -10,11 +11,6 @@ use crate::monitor::Monitor;
 pub const DONE: u32 = 0;
 /// The answer when numbers or lengths do not fit, or a state is not accepted.
 pub const UNFIT: u32 = 18;
-
-/// Words in a call record and in an answer record.
-const RECORD: usize = 32;
-/// The longest batch.
-const MOST_RECORDS: usize = 512;
 
 fn lent_fits(machine: Machine, memory: &[u32], ledger: &[u32]) -> bool {
     machine.fits()
@@ -48,15 +44,17 @@ pub fn batch(
     calls: &[u32],
     answers: &mut [u32],
 ) -> u32 {
-    let list_fits = calls.len().is_multiple_of(RECORD)
-        && calls.len() <= MOST_RECORDS * RECORD
+    let list_fits = calls.len().is_multiple_of(RECORD_WORDS)
+        && calls.len() <= MOST_CALLS * RECORD_WORDS
         && answers.len() == calls.len();
     if !list_fits || !lent_fits(m, mem, led) {
         return UNFIT;
     }
     let Some(ledger) = accepted(m, mem, led) else { return UNFIT };
     let mut monitor = Monitor { machine: m, ledger, memory: mem };
-    for (call, answer) in calls.chunks_exact(RECORD).zip(answers.chunks_exact_mut(RECORD)) {
+    for (call, answer) in
+        calls.chunks_exact(RECORD_WORDS).zip(answers.chunks_exact_mut(RECORD_WORDS))
+    {
         answer.copy_from_slice(&record(&monitor.obey(call)));
     }
     led.copy_from_slice(&monitor.ledger.encode());

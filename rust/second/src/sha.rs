@@ -1,7 +1,9 @@
 //! SHA-256 (FIPS 180-4) and HMAC-SHA256 (FIPS 198-1), on big-endian words.
 
+use crate::layout::{BLOCK_WORDS, HASH_WORDS};
+
 /// The running hash, a digest or a MAC.
-pub type Hash = [u32; 8];
+pub type Hash = [u32; HASH_WORDS];
 
 /// The starting hash.
 pub const START: Hash = [
@@ -22,8 +24,8 @@ const ROUND: [u32; 64] = [
 /// The message schedule of one block.
 fn schedule(block: &[u32]) -> [u32; 64] {
     let mut w = [0; 64];
-    w[..16].copy_from_slice(block);
-    for t in 16..64 {
+    w[..BLOCK_WORDS].copy_from_slice(block);
+    for t in BLOCK_WORDS..64 {
         let (x, y) = (w[t - 15], w[t - 2]);
         let small0 = x.rotate_right(7) ^ x.rotate_right(18) ^ x >> 3;
         let small1 = y.rotate_right(17) ^ y.rotate_right(19) ^ y >> 10;
@@ -55,14 +57,14 @@ pub fn compress(hash: Hash, block: &[u32]) -> Hash {
 
 /// The hash with whole blocks added.
 pub fn add(hash: Hash, words: &[u32]) -> Hash {
-    words.chunks_exact(16).fold(hash, compress)
+    words.chunks_exact(BLOCK_WORDS).fold(hash, compress)
 }
 
 /// The digest of a message of `blocks` whole blocks whose running hash is
 /// `hash`: a block of padding alone.
 pub fn finish(hash: Hash, blocks: u32) -> Hash {
     let bits = u64::from(blocks) * 512;
-    let mut padding = [0; 16];
+    let mut padding = [0; BLOCK_WORDS];
     padding[0] = 0x8000_0000;
     padding[14] = (bits >> 32) as u32;
     padding[15] = bits as u32;

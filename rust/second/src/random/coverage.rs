@@ -1,37 +1,46 @@
 //! Which answers each call has given so far.
 
+use crate::calls::number::*;
+use crate::calls::Code::{self, *};
 use crate::calls::{by_number, CALLS};
+use crate::service::DONE;
 use std::collections::BTreeMap;
 use std::fmt;
 
-/// The refusals of each call's row, its outcome when done among them; 19 and
-/// 15, which every call can draw, are added below.
-const ROWS: [(u32, &[u32]); 24] = [
-    (1, &[0]),
-    (2, &[0, 1, 2]),
-    (3, &[0, 1, 3, 4, 2]),
-    (4, &[0, 1, 3, 4, 2, 21, 7]),
-    (5, &[0, 1, 3, 4, 2]),
-    (6, &[0, 1, 3, 4, 2, 6, 8, 7, 9]),
-    (7, &[0, 1, 3, 4, 6, 8, 7, 9]),
-    (8, &[0, 1, 3, 4]),
-    (9, &[0, 1, 10, 5, 11]),
-    (10, &[0, 1, 10, 5, 12]),
-    (11, &[0, 1, 3]),
-    (12, &[0, 1, 22, 13, 14]),
-    (13, &[0]),
-    (32, &[0]),
-    (33, &[0]),
-    (34, &[0]),
-    (35, &[0, 1, 16, 21, 7]),
-    (36, &[0, 1, 16, 6, 8, 7]),
-    (37, &[0, 1, 17]),
-    (38, &[0]),
-    (39, &[32]),
-    (40, &[33]),
-    (41, &[0, 33]),
-    (42, &[0, 33]),
+/// What each call's row has besides 0; 19 and 15, which every call can draw,
+/// are added below.
+const ROWS: [(u32, &[Code]); 24] = [
+    (GET_PHYS_PAGES, &[]),
+    (INIT_ADDR_SPACE, &[NoSuchPage, NotFree]),
+    (INIT_THREAD, &[NoSuchPage, NotASpace, WrongState, NotFree]),
+    (INIT_TABLE, &[NoSuchPage, NotASpace, WrongState, NotFree, NoSuchIndex, Taken]),
+    (ALLOC_SPARE, &[NoSuchPage, NotASpace, WrongState, NotFree]),
+    (
+        MAP_SECURE,
+        &[NoSuchPage, NotASpace, WrongState, NotFree, BadMapping, NoTable, Taken, NotInsecure],
+    ),
+    (MAP_INSECURE, &[NoSuchPage, NotASpace, WrongState, BadMapping, NoTable, Taken, NotInsecure]),
+    (FINALISE, &[NoSuchPage, NotASpace, WrongState]),
+    (ENTER, &[NoSuchPage, NotAThread, NotFinal, Suspended]),
+    (RESUME, &[NoSuchPage, NotAThread, NotFinal, NotSuspended]),
+    (STOP, &[NoSuchPage, NotASpace]),
+    (REMOVE, &[NoSuchPage, AlreadyFree, NotStopped, StillOwns]),
+    (FREE_PAGES, &[]),
+    (GET_RANDOM, &[]),
+    (ATTEST, &[]),
+    (VERIFY, &[]),
+    (SPARE_TABLE, &[NoSuchPage, NotOwnSpare, NoSuchIndex, Taken]),
+    (MAP_DATA, &[NoSuchPage, NotOwnSpare, BadMapping, NoTable, Taken]),
+    (UNMAP_DATA, &[NoSuchPage, NotOwnData]),
+    (EXIT, &[]),
+    (INTERRUPT, &[Interrupted]),
+    (FAULT, &[Faulted]),
+    (LOAD, &[Faulted]),
+    (STORE, &[Faulted]),
 ];
+
+/// Calls whose every outcome has a number of its own.
+const NEVER_DONE: [u32; 2] = [INTERRUPT, FAULT];
 
 /// The call number that stands for all unknown ones.
 const UNKNOWN: u32 = 0;
@@ -39,9 +48,11 @@ const UNKNOWN: u32 = 0;
 /// Every pair of call number and answer code that the rules allow; call 0
 /// stands for every unknown number.
 pub fn allowed_pairs() -> Vec<(u32, u32)> {
-    let mut pairs = vec![(UNKNOWN, 19)];
+    let mut pairs = vec![(UNKNOWN, BadRecord as u32)];
     for (call, codes) in ROWS {
-        pairs.extend(codes.iter().chain(&[15, 19]).map(|code| (call, *code)));
+        let done = (!NEVER_DONE.contains(&call)).then_some(DONE);
+        let codes = codes.iter().chain(&[WrongTime, BadRecord]).map(|code| *code as u32);
+        pairs.extend(done.into_iter().chain(codes).map(|code| (call, code)));
     }
     pairs
 }

@@ -1,9 +1,14 @@
 //! Damage to accepted words, by kinds, each with what acceptance must say.
 
-use super::view::{View, BUILDING, DATA, FINAL, FIRST, FREE, SPACE, SPARE, STOPPED, TABLE, THREAD};
-use super::Rng;
-use crate::machine::{Machine, FRAME_WORDS};
-use crate::mapping::Mapping;
+use super::{Rng, View};
+use crate::layout::kind::{DATA, FIRST, FREE, SECOND, SPACE, SPARE, THREAD};
+use crate::layout::state::{BUILDING, FINAL, STOPPED};
+use crate::layout::{
+    free_bit, kind, record_of, state, word, DATA_BLOCKS, FRAME_WORDS, HASH_WORDS, HEADER_WORDS,
+    KEY_START, MAP_END, MOST_PAGES, MOST_TABLES, RECORD_WORDS, RUNNING, SAVED_WORDS,
+};
+use crate::machine::Machine;
+use crate::mapping::{Leaf, Mapping, EXECUTE, PAGE_SHIFT, READ, RIGHTS, WRITE};
 
 /// What acceptance must say after a kind of damage to an accepted state.
 #[derive(Clone, Copy, Debug, PartialEq, Eq)]
@@ -75,19 +80,19 @@ pub fn kinds() -> &'static [Kind] {
         No "low flags of a suspended thread" low_flags;
         No "a suspended thread of a building space" building_suspended;
         No "a thread suspended twice" suspended_twice;
-        No "word 1,023 of a first-level page" first_last_word;
-        No "word 1,023 of a table" table_last_word;
-        No "first-level word 256" first_word_256;
+        No "the last word of a first-level page" first_last_word;
+        No "the last word of a table" table_last_word;
+        No "the first-level word after the last index" first_word_beyond;
         No "a first-level slot changed" first_slot;
         Yes "blocks of 65n" blocks_full;
         No "blocks of 65n+1" blocks_over;
         No "blocks of a building space off by one" building_blocks;
-        No "header words 17-31" header_tail;
+        No "header words after the free map" header_tail;
         No "an unnamed word of a record" unnamed;
         No "another owner" other_owner;
-        No "a type above 6" high_type;
-        No "a state above 2" high_state;
-        No "an index of 256 or more" high_index;
+        No "a type that is none" high_type;
+        No "a state that is none" high_state;
+        No "an index that is none" high_index;
         No "an ill-formed mapping word" ill_mapping;
         No "another first-level page in word 2" other_first;
         No "a stopped space's word 2 not below n" stopped_first_high;
@@ -110,6 +115,12 @@ pub fn kinds() -> &'static [Kind] {
     }
 }
 
+/// Rights of good slots, of slots of insecure frames, and of others.
+const READABLE: [u32; 4] = [READ, READ | WRITE, READ | EXECUTE, RIGHTS];
+const SHARED: [u32; 2] = [READ, READ | WRITE];
+const EXECUTABLE: [u32; 2] = [READ | EXECUTE, RIGHTS];
+const UNREADABLE: [u32; 3] = [WRITE, EXECUTE, WRITE | EXECUTE];
+
 struct Hurt<'a> {
     rng: &'a mut Rng,
     machine: Machine,
@@ -124,7 +135,7 @@ impl Hurt<'_> {
     }
 
     fn record(&mut self, page: usize) -> &mut [u32] {
-        &mut self.ledger[32 + 32 * page..][..32]
+        &mut self.ledger[record_of(page)]
     }
 
     fn words(&mut self, page: usize) -> &mut [u32] {
@@ -160,6 +171,11 @@ impl Hurt<'_> {
         self.rng.below(FRAME_WORDS as u32) as usize
     }
 
+    /// The slot word for a secure page.
+    fn leaf(&self, page: usize, rights: u32) -> u32 {
+        Leaf { frame: self.machine.frame_of(page) as u32, rights }.word()
+    }
+
     fn insecure_frame(&mut self) -> Option<u32> {
         let machine = self.machine;
         (0..40).map(|_| self.rng.below(machine.frames)).find(|frame| machine.is_insecure(*frame))
@@ -169,19 +185,20 @@ impl Hurt<'_> {
     fn standing(&mut self) -> Option<(usize, usize)> {
         let data = self.live(DATA)?;
         let view = self.view();
-        let mapping = Mapping(view.record(data)[2]);
+        let mapping = Mapping(view.record(data)[word::MAPPING]);
         let mut tables = view.tables(view.owner(data)).into_iter();
-        let table = tables.find(|table| view.record(*table)[2] as usize == mapping.index())?;
+        let table =
+            tables.find(|table| view.record(*table)[word::INDEX] as usize == mapping.index())?;
         Some((data, self.machine.words_of(table).start + mapping.slot()))
     }
 
     /// Two tables of one space in a state that is or is not stopped.
     fn two_tables(&mut self, stopped: bool) -> Option<(usize, usize)> {
         let one = self.page(|view, page| {
-            view.kind(page) == TABLE && (view.owner_state(page) == STOPPED) == stopped
+            view.kind(page) == SECOND && (view.owner_state(page) == STOPPED) == stopped
         })?;
         let other = self.page(|view, page| {
-            view.kind(page) == TABLE && page != one && view.owner(page) == view.owner(one)
+            view.kind(page) == SECOND && page != one && view.owner(page) == view.owner(one)
         })?;
         Some((one, other))
     }
@@ -190,38 +207,39 @@ impl Hurt<'_> {
 /// Slots and tables.
 impl Hurt<'_> {
     fn neighbour_slot(&mut self) -> Option<()> {
-        let table = self.live(TABLE)?;
+        let table = self.live(SECOND)?;
         let owner = self.view().owner(table);
         let data = self.page(|view, page| view.kind(page) == DATA && view.owner(page) != owner)?;
-        let (slot, rights) = (self.any_slot(), self.view().record(data)[2] & 7);
-        self.words(table)[slot] = (self.machine.frame_of(data) as u32) << 12 | rights;
+        let mapping = Mapping(self.view().record(data)[word::MAPPING]);
+        let slot = self.any_slot();
+        self.words(table)[slot] = self.leaf(data, mapping.rights());
         Some(())
     }
 
     /// The place and the rights are right: only the owner is another.
     fn neighbour_place(&mut self) -> Option<()> {
         let data = self.of(DATA)?;
-        let (owner, mapping) = (self.view().owner(data), Mapping(self.view().record(data)[2]));
+        let (owner, mapping) =
+            (self.view().owner(data), Mapping(self.view().record(data)[word::MAPPING]));
         let table = self.page(|view, page| {
-            let same_index = view.record(page)[2] as usize == mapping.index();
-            let live = view.kind(page) == TABLE && view.owner_state(page) != STOPPED;
+            let same_index = view.record(page)[word::INDEX] as usize == mapping.index();
+            let live = view.kind(page) == SECOND && view.owner_state(page) != STOPPED;
             live && same_index && view.owner(page) != owner
         })?;
-        let leaf = (self.machine.frame_of(data) as u32) << 12 | mapping.rights();
-        self.words(table)[mapping.slot()] = leaf;
+        self.words(table)[mapping.slot()] = self.leaf(data, mapping.rights());
         Some(())
     }
 
     fn odd_page_slot(&mut self) -> Option<()> {
-        let table = self.live(TABLE)?;
+        let table = self.live(SECOND)?;
         let page = self.page(|view, page| view.kind(page) != DATA)?;
-        let (slot, rights) = (self.any_slot(), self.rng.pick(&[1, 3, 5, 7]));
-        self.words(table)[slot] = (self.machine.frame_of(page) as u32) << 12 | rights;
+        let (slot, rights) = (self.any_slot(), self.rng.pick(&READABLE));
+        self.words(table)[slot] = self.leaf(page, rights);
         Some(())
     }
 
     fn ill_slot(&mut self) -> Option<()> {
-        let (table, slot) = (self.live(TABLE)?, self.any_slot());
+        let (table, slot) = (self.live(SECOND)?, self.any_slot());
         self.words(table)[slot] = self.ill_leaf();
         Some(())
     }
@@ -231,24 +249,24 @@ impl Hurt<'_> {
         let machine = self.machine;
         let frame = self.insecure_frame().unwrap_or(0);
         match self.rng.below(6) {
-            0 => frame << 12 | self.rng.pick(&[2, 4, 6]),
-            1 => frame << 12 | 1 | 1 << (3 + self.rng.below(9)),
-            2 => (machine.monitor + self.rng.below(machine.monitors)) << 12 | 1,
-            3 => machine.frames << 12 | self.rng.pick(&[1, 3]),
-            4 => frame << 12 | self.rng.pick(&[5, 7]) | 1 << 24,
-            _ => frame << 12 | self.rng.pick(&[5, 7]),
+            0 => frame << PAGE_SHIFT | self.rng.pick(&UNREADABLE),
+            1 => frame << PAGE_SHIFT | READ | 1 << (3 + self.rng.below(9)),
+            2 => (machine.monitor + self.rng.below(machine.monitors)) << PAGE_SHIFT | READ,
+            3 => machine.frames << PAGE_SHIFT | self.rng.pick(&SHARED),
+            4 => frame << PAGE_SHIFT | self.rng.pick(&EXECUTABLE) | 1 << 24,
+            _ => frame << PAGE_SHIFT | self.rng.pick(&EXECUTABLE),
         }
     }
 
     fn table_last_word(&mut self) -> Option<()> {
-        let table = self.live(TABLE)?;
+        let table = self.live(SECOND)?;
         self.words(table)[FRAME_WORDS - 1] = self.ill_leaf();
         Some(())
     }
 
     fn slot_rights(&mut self) -> Option<()> {
         let (_, place) = self.standing()?;
-        self.memory[place] ^= self.rng.pick(&[2, 4, 6]);
+        self.memory[place] ^= self.rng.pick(&UNREADABLE);
         Some(())
     }
 
@@ -261,19 +279,19 @@ impl Hurt<'_> {
     fn other_mapping(&mut self) -> Option<()> {
         let (data, _) = self.standing()?;
         let bit = self.rng.pick(&[1, 2, 12, 13, 21, 22, 29]);
-        self.record(data)[2] ^= 1 << bit;
+        self.record(data)[word::MAPPING] ^= 1 << bit;
         Some(())
     }
 
     fn one_index(&mut self) -> Option<()> {
         let (one, other) = self.two_tables(false)?;
-        self.record(one)[2] = self.view().record(other)[2];
+        self.record(one)[word::INDEX] = self.view().record(other)[word::INDEX];
         Some(())
     }
 
     fn stopped_one_index(&mut self) -> Option<()> {
         let (one, other) = self.two_tables(true)?;
-        self.record(one)[2] = self.view().record(other)[2];
+        self.record(one)[word::INDEX] = self.view().record(other)[word::INDEX];
         Some(())
     }
 
@@ -283,16 +301,16 @@ impl Hurt<'_> {
         Some(())
     }
 
-    fn first_word_256(&mut self) -> Option<()> {
+    fn first_word_beyond(&mut self) -> Option<()> {
         let first = self.live(FIRST)?;
-        let table = self.page(|view, page| view.kind(page) == TABLE);
-        self.words(first)[256] = table.map_or(1, |table| table as u32 + 1);
+        let table = self.page(|view, page| view.kind(page) == SECOND);
+        self.words(first)[MOST_TABLES] = table.map_or(1, |table| table as u32 + 1);
         Some(())
     }
 
     fn first_slot(&mut self) -> Option<()> {
         let first = self.live(FIRST)?;
-        let slot = self.rng.pick(&[0, 1, 2, 3, 254, 255]);
+        let slot = self.rng.pick(&[0, 1, 2, 3, MOST_TABLES - 2, MOST_TABLES - 1]);
         let old = self.view().words(first)[slot];
         let n = self.machine.pages;
         let choices = [0, 1 + self.rng.below(n), n + 1, u32::MAX, old ^ self.rng.nonzero()];
@@ -303,7 +321,7 @@ impl Hurt<'_> {
 
     fn loose_tables(&mut self) -> Option<()> {
         let table = self.page(|view, page| {
-            matches!(view.kind(page), FIRST | TABLE) && view.owner_state(page) == STOPPED
+            matches!(view.kind(page), FIRST | SECOND) && view.owner_state(page) == STOPPED
         })?;
         for _ in 0..=self.rng.below(9) {
             let slot = self.any_slot();
@@ -313,28 +331,28 @@ impl Hurt<'_> {
     }
 
     fn insecure_added(&mut self) -> Option<()> {
-        let (table, frame) = (self.live(TABLE)?, self.insecure_frame()?);
-        let (slot, rights) = (self.any_slot(), self.rng.pick(&[1, 3]));
+        let (table, frame) = (self.live(SECOND)?, self.insecure_frame()?);
+        let (slot, rights) = (self.any_slot(), self.rng.pick(&SHARED));
         let word = &mut self.words(table)[slot];
         if *word != 0 {
             return None;
         }
-        *word = frame << 12 | rights;
+        *word = Leaf { frame, rights }.word();
         Some(())
     }
 
     fn insecure_emptied(&mut self) -> Option<()> {
-        let table = self.live(TABLE)?;
+        let table = self.live(SECOND)?;
         let machine = self.machine;
-        let insecure = |word: &&mut u32| **word != 0 && machine.is_insecure(**word >> 12);
+        let insecure = |word: &&mut u32| **word != 0 && machine.is_insecure(**word >> PAGE_SHIFT);
         *self.words(table).iter_mut().find(insecure)? = 0;
         Some(())
     }
 
     fn any_table_bit(&mut self) -> Option<()> {
-        let table = self.page(|view, page| matches!(view.kind(page), FIRST | TABLE))?;
+        let table = self.page(|view, page| matches!(view.kind(page), FIRST | SECOND))?;
         let used: Vec<usize> =
-            (0..1024).filter(|slot| self.view().words(table)[*slot] != 0).collect();
+            (0..FRAME_WORDS).filter(|slot| self.view().words(table)[*slot] != 0).collect();
         let slot = self.rng.pick_any(&used).unwrap_or(0);
         self.words(table)[slot] ^= 1 << self.rng.below(32);
         Some(())
@@ -345,32 +363,37 @@ impl Hurt<'_> {
 impl Hurt<'_> {
     fn bit_beyond(&mut self) -> Option<()> {
         let n = self.machine.pages;
-        let bit = if n < 256 { n + self.rng.below(256 - n) } else { return None };
-        let bit = self.rng.pick(&[n, bit, 255]);
-        self.ledger[9 + bit as usize / 32] ^= 1 << (bit % 32);
+        let page = if n < MOST_PAGES { n + self.rng.below(MOST_PAGES - n) } else { return None };
+        let page = self.rng.pick(&[n, page, MOST_PAGES - 1]);
+        self.turn_free_bit(page);
         Some(())
     }
 
     fn bit_turned(&mut self) -> Option<()> {
-        let bit = self.rng.below(self.machine.pages);
-        self.ledger[9 + bit as usize / 32] ^= 1 << (bit % 32);
+        let page = self.rng.below(self.machine.pages);
+        self.turn_free_bit(page);
         Some(())
     }
 
+    fn turn_free_bit(&mut self, page: u32) {
+        let (word, bit) = free_bit(page as usize);
+        self.ledger[word] ^= bit;
+    }
+
     fn header_tail(&mut self) -> Option<()> {
-        let later = 17 + self.rng.below(15) as usize;
-        let word = self.rng.pick(&[17, later, 31]);
+        let later = MAP_END + self.rng.below((HEADER_WORDS - MAP_END) as u32) as usize;
+        let word = self.rng.pick(&[MAP_END, later, HEADER_WORDS - 1]);
         self.ledger[word] = self.nonzero();
         Some(())
     }
 
     fn running_suspended(&mut self) -> Option<()> {
         match self.view().running() {
-            Some(thread) => self.record(thread)[3] = 1,
+            Some(thread) => self.record(thread)[word::SUSPENDED] = 1,
             None => {
                 let thread =
                     self.page(|view, page| view.kind(page) == THREAD && view.suspended(page));
-                self.ledger[0] = thread? as u32 + 1;
+                self.ledger[RUNNING] = thread? as u32 + 1;
             }
         }
         Some(())
@@ -378,7 +401,7 @@ impl Hurt<'_> {
 
     fn running_not_final(&mut self) -> Option<()> {
         let state = self.rng.pick(&[BUILDING, STOPPED]);
-        self.ledger[0] = self.in_state(THREAD, state)? as u32 + 1;
+        self.ledger[RUNNING] = self.in_state(THREAD, state)? as u32 + 1;
         Some(())
     }
 
@@ -386,7 +409,7 @@ impl Hurt<'_> {
         let page = self.page(|view, page| view.kind(page) != THREAD);
         let n = self.machine.pages;
         let choices = [page.map_or(n, |page| page as u32), n, u32::MAX - 1];
-        self.ledger[0] = self.rng.pick(&choices) + 1;
+        self.ledger[RUNNING] = self.rng.pick(&choices) + 1;
         Some(())
     }
 
@@ -394,7 +417,7 @@ impl Hurt<'_> {
         let thread = self.page(|view, page| {
             view.kind(page) == THREAD && view.owner_state(page) == FINAL && !view.suspended(page)
         })?;
-        self.ledger[0] = thread as u32 + 1;
+        self.ledger[RUNNING] = thread as u32 + 1;
         Some(())
     }
 }
@@ -403,34 +426,35 @@ impl Hurt<'_> {
 impl Hurt<'_> {
     fn count_off(&mut self) -> Option<()> {
         let (space, step) = (self.of(SPACE)?, self.rng.pick(&[1, u32::MAX]));
-        let count = &mut self.record(space)[4];
+        let count = &mut self.record(space)[word::COUNT];
         *count = count.wrapping_add(step);
         Some(())
     }
 
     fn idle_registers(&mut self) -> Option<()> {
         let thread = self.page(|view, page| view.kind(page) == THREAD && !view.suspended(page))?;
-        let place = 4 + self.rng.below(17) as usize;
-        self.record(thread)[place] = if place == 20 { 1 << 31 } else { self.nonzero() };
+        let place = word::SAVED + self.rng.below(SAVED_WORDS as u32) as usize;
+        let flags = place == word::FLAGS;
+        self.record(thread)[place] = if flags { 1 << 31 } else { self.nonzero() };
         Some(())
     }
 
     fn low_flags(&mut self) -> Option<()> {
         let thread = self.page(|view, page| view.kind(page) == THREAD && view.suspended(page))?;
         let bit = self.rng.pick(&[0, 1, 26, 27]);
-        self.record(thread)[20] |= 1 << bit;
+        self.record(thread)[word::FLAGS] |= 1 << bit;
         Some(())
     }
 
     fn building_suspended(&mut self) -> Option<()> {
         let thread = self.in_state(THREAD, BUILDING)?;
-        self.record(thread)[3] = 1;
+        self.record(thread)[word::SUSPENDED] = 1;
         Some(())
     }
 
     fn suspended_twice(&mut self) -> Option<()> {
         let (thread, word) = (self.of(THREAD)?, self.rng.pick(&[2, 3, 1 << 31]));
-        self.record(thread)[3] = word;
+        self.record(thread)[word::SUSPENDED] = word;
         Some(())
     }
 
@@ -440,30 +464,38 @@ impl Hurt<'_> {
     }
 
     fn blocks_full(&mut self) -> Option<()> {
-        let (space, most) = (self.built()?, 65 * self.machine.pages);
+        let (space, most) = (self.built()?, DATA_BLOCKS * self.machine.pages);
         let fewer = self.rng.below(most);
-        self.record(space)[5] = self.rng.pick(&[most, most, fewer]);
+        self.record(space)[word::BLOCKS] = self.rng.pick(&[most, most, fewer]);
         Some(())
     }
 
     fn blocks_over(&mut self) -> Option<()> {
-        let (space, over) = (self.built()?, 65 * self.machine.pages + 1);
-        self.record(space)[5] = self.rng.pick(&[over, over, u32::MAX]);
+        let (space, over) = (self.built()?, DATA_BLOCKS * self.machine.pages + 1);
+        self.record(space)[word::BLOCKS] = self.rng.pick(&[over, over, u32::MAX]);
         Some(())
     }
 
     fn building_blocks(&mut self) -> Option<()> {
-        let (space, step) = (self.in_state(SPACE, BUILDING)?, self.rng.pick(&[1, 65, u32::MAX]));
-        let blocks = &mut self.record(space)[5];
+        let (space, step) =
+            (self.in_state(SPACE, BUILDING)?, self.rng.pick(&[1, DATA_BLOCKS, u32::MAX]));
+        let blocks = &mut self.record(space)[word::BLOCKS];
         *blocks = blocks.wrapping_add(step);
         Some(())
     }
 
     fn unnamed(&mut self) -> Option<()> {
         let page = self.rng.below(self.machine.pages) as usize;
-        let named = [1, 14, 21, 2, 3, 3, 2][self.view().kind(page) as usize];
-        let later = named + self.rng.below(32 - named as u32) as usize;
-        let place = self.rng.pick(&[named, later, 31]);
+        let named = match self.view().kind(page) {
+            FREE => word::TYPE + 1,
+            SPACE => word::HASH_END,
+            THREAD => word::SAVED_END,
+            SECOND => word::INDEX + 1,
+            DATA => word::MAPPING + 1,
+            _ => word::OWNER + 1,
+        };
+        let later = named + self.rng.below((RECORD_WORDS - named) as u32) as usize;
+        let place = self.rng.pick(&[named, later, RECORD_WORDS - 1]);
         self.record(page)[place] = self.nonzero();
         Some(())
     }
@@ -473,91 +505,95 @@ impl Hurt<'_> {
         let (old, n) = (self.view().owner(page) as u32, self.machine.pages);
         let choices = [self.rng.below(n), n, u32::MAX];
         let new = self.rng.pick(&choices);
-        self.record(page)[1] = new;
+        self.record(page)[word::OWNER] = new;
         (new != old).then_some(())
     }
 
     fn high_type(&mut self) -> Option<()> {
         let page = self.rng.below(self.machine.pages) as usize;
-        self.record(page)[0] = self.rng.pick(&[7, 8, 256, u32::MAX]);
+        self.record(page)[word::TYPE] =
+            self.rng.pick(&[kind::COUNT, kind::COUNT + 1, 1 << 8, u32::MAX]);
         Some(())
     }
 
     fn other_type(&mut self) -> Option<()> {
         let page = self.rng.below(self.machine.pages) as usize;
-        self.record(page)[0] = self.rng.below(7);
+        self.record(page)[word::TYPE] = self.rng.below(kind::COUNT);
         Some(())
     }
 
     fn high_state(&mut self) -> Option<()> {
-        let (space, state) = (self.of(SPACE)?, self.rng.pick(&[3, 4, u32::MAX]));
-        self.record(space)[3] = state;
+        let choices = [state::COUNT, state::COUNT + 1, u32::MAX];
+        let (space, state) = (self.of(SPACE)?, self.rng.pick(&choices));
+        self.record(space)[word::STATE] = state;
         Some(())
     }
 
     fn other_state(&mut self) -> Option<()> {
-        let (space, state) = (self.of(SPACE)?, self.rng.below(3));
-        self.record(space)[3] = state;
+        let (space, state) = (self.of(SPACE)?, self.rng.below(state::COUNT));
+        self.record(space)[word::STATE] = state;
         Some(())
     }
 
     fn high_index(&mut self) -> Option<()> {
-        let (table, index) = (self.of(TABLE)?, self.rng.pick(&[256, 257, 1 << 31]));
-        self.record(table)[2] = index;
+        let beyond = MOST_TABLES as u32;
+        let (table, index) = (self.of(SECOND)?, self.rng.pick(&[beyond, beyond + 1, 1 << 31]));
+        self.record(table)[word::INDEX] = index;
         Some(())
     }
 
     fn ill_mapping(&mut self) -> Option<()> {
         let (data, bit) = (self.of(DATA)?, self.rng.pick(&[0, 3, 4, 11, 30, 31]));
-        self.record(data)[2] ^= 1 << bit;
+        self.record(data)[word::MAPPING] ^= 1 << bit;
         Some(())
     }
 
     fn other_first(&mut self) -> Option<()> {
         let space =
             self.page(|view, page| view.kind(page) == SPACE && view.owner_state(page) != STOPPED)?;
-        let (old, n) = (self.view().record(space)[2], self.machine.pages);
+        let (old, n) = (self.view().record(space)[word::FIRST], self.machine.pages);
         let choices = [self.rng.below(n), n, u32::MAX];
         let new = self.rng.pick(&choices);
-        self.record(space)[2] = new;
+        self.record(space)[word::FIRST] = new;
         (new != old).then_some(())
     }
 
     fn stopped_first_high(&mut self) -> Option<()> {
         let (space, n) = (self.in_state(SPACE, STOPPED)?, self.machine.pages);
-        self.record(space)[2] = self.rng.pick(&[n, n + 1, u32::MAX]);
+        self.record(space)[word::FIRST] = self.rng.pick(&[n, n + 1, u32::MAX]);
         Some(())
     }
 
     fn stopped_first_low(&mut self) -> Option<()> {
         let space = self.in_state(SPACE, STOPPED)?;
-        self.record(space)[2] = self.rng.below(self.machine.pages);
+        self.record(space)[word::FIRST] = self.rng.below(self.machine.pages);
         Some(())
     }
 
     fn second_first(&mut self) -> Option<()> {
         let spare = self.live(SPARE)?;
-        self.record(spare)[0] = FIRST;
+        self.record(spare)[word::TYPE] = FIRST;
         Some(())
     }
 
     fn stopped_second_first(&mut self) -> Option<()> {
         let spare = self.in_state(SPARE, STOPPED)?;
-        self.record(spare)[0] = FIRST;
+        self.record(spare)[word::TYPE] = FIRST;
         Some(())
     }
 
     fn free_words(&mut self) -> Option<()> {
         let word = self.rng.word();
         match self.rng.below(3) {
-            0 => self.ledger[1 + self.rng.below(8) as usize] = word,
+            0 => self.ledger[KEY_START + self.rng.below(HASH_WORDS as u32) as usize] = word,
             1 => {
-                let (space, place) = (self.of(SPACE)?, 6 + self.rng.below(8) as usize);
+                let space = self.of(SPACE)?;
+                let place = word::HASH + self.rng.below(HASH_WORDS as u32) as usize;
                 self.record(space)[place] = word;
             }
             _ => {
                 let thread = self.of(THREAD)?;
-                self.record(thread)[2] = word;
+                self.record(thread)[word::ENTRY] = word;
             }
         }
         Some(())
@@ -566,8 +602,8 @@ impl Hurt<'_> {
     fn swapped(&mut self) -> Option<()> {
         let n = self.machine.pages;
         let (one, other) = (self.rng.below(n) as usize, self.rng.below(n) as usize);
-        for word in 0..32 {
-            self.ledger.swap(32 + 32 * one + word, 32 + 32 * other + word);
+        for (one, other) in record_of(one).zip(record_of(other)) {
+            self.ledger.swap(one, other);
         }
         Some(())
     }

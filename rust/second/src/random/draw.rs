@@ -1,36 +1,75 @@
 //! The next call of a shift, drawn with an eye on the current words so that
 //! successes and every refusal come up often.
 
-use super::view::{View, BUILDING, DATA, FINAL, FREE, SPACE, SPARE, STOPPED, THREAD};
-use super::Rng;
+use super::{Rng, View};
 use crate::calls::by_number;
-use crate::mapping::Mapping;
+use crate::calls::number::*;
+use crate::layout::kind::{DATA, FREE, SPACE, SPARE, THREAD};
+use crate::layout::state::{BUILDING, FINAL, STOPPED};
+use crate::layout::{
+    word, Record, FRAME_WORDS, HASH_WORDS, KEY_START, MOST_TABLES, RECORD_WORDS, SAVED_WORDS,
+};
+use crate::mapping::{
+    Mapping, ADDRESSES, EXECUTE, INDEX_SHIFT, PAGE_ADDRESS, PAGE_SHIFT, READ, RIGHTS, WORD_BYTES,
+    WRITE,
+};
 use crate::sha;
 
-/// Host calls, each as often as it stands here.
-const HOST: [u32; 44] = [
-    1, 2, 2, 2, 3, 3, 3, 4, 4, 4, 4, 5, 5, 5, 6, 6, 6, 6, 6, 6, 6, 7, 7, 7, 7, 7, 8, 8, 9, 9, 9, 9,
-    9, 9, 9, 10, 10, 10, 11, 12, 12, 12, 12, 13,
+/// Host calls, each this often.
+const HOST: [(u32, u32); 13] = [
+    (GET_PHYS_PAGES, 1),
+    (INIT_ADDR_SPACE, 3),
+    (INIT_THREAD, 3),
+    (INIT_TABLE, 4),
+    (ALLOC_SPARE, 3),
+    (MAP_SECURE, 7),
+    (MAP_INSECURE, 5),
+    (FINALISE, 2),
+    (ENTER, 7),
+    (RESUME, 3),
+    (STOP, 1),
+    (REMOVE, 4),
+    (FREE_PAGES, 1),
 ];
 
 /// Host calls when pages are short.
-const TAKE_DOWN: [u32; 8] = [11, 12, 12, 12, 12, 12, 13, 9];
+const TAKE_DOWN: [(u32, u32); 4] = [(STOP, 1), (REMOVE, 5), (FREE_PAGES, 1), (ENTER, 1)];
 
 /// Calls of a running thread.
-const ENCLAVE: [u32; 38] = [
-    32, 33, 34, 35, 35, 35, 35, 35, 36, 36, 36, 36, 36, 36, 36, 36, 37, 37, 37, 37, 38, 39, 40, 41,
-    41, 41, 41, 41, 41, 41, 42, 42, 42, 42, 42, 42, 42, 42,
+const ENCLAVE_CALLS: [(u32, u32); 11] = [
+    (GET_RANDOM, 1),
+    (ATTEST, 1),
+    (VERIFY, 1),
+    (SPARE_TABLE, 5),
+    (MAP_DATA, 8),
+    (UNMAP_DATA, 4),
+    (EXIT, 1),
+    (INTERRUPT, 1),
+    (FAULT, 1),
+    (LOAD, 7),
+    (STORE, 8),
 ];
 
-/// A record of 32 words for the state in view.
-pub fn next_call(rng: &mut Rng, view: View) -> [u32; 32] {
+/// A call of these, each as often as it says.
+fn often(rng: &mut Rng, calls: &[(u32, u32)]) -> u32 {
+    let mut left = rng.below(calls.iter().map(|(_, times)| times).sum());
+    let drawn = calls.iter().find(|(_, times)| {
+        let here = left < *times;
+        left = left.wrapping_sub(*times);
+        here
+    });
+    drawn.expect("one of them").0
+}
+
+/// A record for the state in view.
+pub fn next_call(rng: &mut Rng, view: View) -> Record {
     let mut draw = Draw { rng, view };
     let running = view.running().is_some();
     // Now and then a call that is out of time.
     let out_of_time = draw.rng.once_in(28);
     let number = draw.hopeful_number(running != out_of_time);
     let arguments = draw.arguments(number);
-    let mut record = [0; 32];
+    let mut record = [0; RECORD_WORDS];
     record[0] = number;
     record[1..=arguments.len()].copy_from_slice(&arguments);
     if draw.rng.once_in(28) {
@@ -48,11 +87,11 @@ impl Draw<'_, '_> {
     fn number(&mut self, enclave: bool) -> u32 {
         let free = self.view.pages(|view, page| view.kind(page) == FREE).len();
         if enclave {
-            self.rng.pick(&ENCLAVE)
+            often(self.rng, &ENCLAVE_CALLS)
         } else if free * 6 <= self.view.machine.page_count() && self.rng.once_in(2) {
-            self.rng.pick(&TAKE_DOWN)
+            often(self.rng, &TAKE_DOWN)
         } else {
-            self.rng.pick(&HOST)
+            often(self.rng, &HOST)
         }
     }
 
@@ -74,24 +113,32 @@ impl Draw<'_, '_> {
         let (view, owner) = (self.view, self.owner());
         let any = |wanted: &dyn Fn(usize) -> bool| (0..view.machine.page_count()).any(wanted);
         match number {
-            2 => any(&|page| view.kind(page) == FREE),
-            3 | 4 | 6 | 7 | 8 => !view.of(SPACE, BUILDING).is_empty(),
-            5 | 11 => any(&|page| view.kind(page) == SPACE && view.owner_state(page) != STOPPED),
-            9 => view.of(THREAD, FINAL).iter().any(|thread| !view.suspended(*thread)),
-            10 => view.of(THREAD, FINAL).iter().any(|thread| view.suspended(*thread)),
-            12 => any(&|page| {
+            INIT_ADDR_SPACE => any(&|page| view.kind(page) == FREE),
+            INIT_THREAD | INIT_TABLE | MAP_SECURE | MAP_INSECURE | FINALISE => {
+                !view.of(SPACE, BUILDING).is_empty()
+            }
+            ALLOC_SPARE | STOP => {
+                any(&|page| view.kind(page) == SPACE && view.owner_state(page) != STOPPED)
+            }
+            ENTER => view.of(THREAD, FINAL).iter().any(|thread| !view.suspended(*thread)),
+            RESUME => view.of(THREAD, FINAL).iter().any(|thread| view.suspended(*thread)),
+            REMOVE => any(&|page| {
                 let stopped = view.kind(page) != FREE && view.owner_state(page) == STOPPED;
                 view.kind(page) == SPARE || stopped
             }),
-            35 | 36 => any(&|page| view.kind(page) == SPARE && view.owner(page) == owner),
-            37 => any(&|page| view.kind(page) == DATA && view.owner(page) == owner),
-            41 | 42 => view.tables(owner).iter().any(|t| view.words(*t).iter().any(|w| *w != 0)),
+            SPARE_TABLE | MAP_DATA => {
+                any(&|page| view.kind(page) == SPARE && view.owner(page) == owner)
+            }
+            UNMAP_DATA => any(&|page| view.kind(page) == DATA && view.owner(page) == owner),
+            LOAD | STORE => {
+                view.tables(owner).iter().any(|t| view.words(*t).iter().any(|w| *w != 0))
+            }
             _ => true,
         }
     }
 
     /// Makes a record draw 19: an unknown number, or a word too many.
-    fn spoil(&mut self, record: &mut [u32; 32]) {
+    fn spoil(&mut self, record: &mut Record) {
         let arguments = by_number(record[0]).map_or(0, |call| call.arguments);
         if self.rng.once_in(3) {
             let word = self.rng.word();
@@ -99,33 +146,33 @@ impl Draw<'_, '_> {
                 self.rng.pick(&[0, 14, 15, 31, 43, 44, u32::MAX, record[0] | 1 << 16, word]);
         } else {
             let first = 1 + arguments;
-            let later = first + self.rng.below(32 - first as u32) as usize;
-            record[self.rng.pick(&[first, later, 31])] = self.rng.nonzero();
+            let later = first + self.rng.below((RECORD_WORDS - first) as u32) as usize;
+            record[self.rng.pick(&[first, later, RECORD_WORDS - 1])] = self.rng.nonzero();
         }
     }
 
     fn arguments(&mut self, number: u32) -> Vec<u32> {
         match number {
-            2 => vec![self.free_page(), self.free_page()],
-            3 => vec![self.space(BUILDING), self.free_page(), self.rng.word()],
-            4 => vec![self.space(BUILDING), self.free_page(), self.index()],
-            5 => vec![self.live_space(), self.free_page()],
-            6 => self.map_secure(),
-            7 => self.map_insecure(),
-            8 => vec![self.space(BUILDING)],
-            9 => vec![self.thread(false), self.rng.word(), self.rng.word(), self.rng.word()],
-            10 => vec![self.thread(true)],
-            11 => vec![self.live_space()],
-            12 => vec![self.removable()],
-            32 | 38 => vec![self.rng.word()],
-            33 => self.words(8),
-            34 => self.verify(),
-            35 => vec![self.own(SPARE), self.index()],
-            36 => vec![self.own(SPARE), self.mapping(self.owner(), 7)],
-            37 => vec![self.own(DATA)],
-            39 => self.words(17),
-            41 => vec![self.address()],
-            42 => vec![self.address(), self.rng.word()],
+            INIT_ADDR_SPACE => vec![self.free_page(), self.free_page()],
+            INIT_THREAD => vec![self.space(BUILDING), self.free_page(), self.rng.word()],
+            INIT_TABLE => vec![self.space(BUILDING), self.free_page(), self.index()],
+            ALLOC_SPARE => vec![self.live_space(), self.free_page()],
+            MAP_SECURE => self.map_secure(),
+            MAP_INSECURE => self.map_insecure(),
+            FINALISE => vec![self.space(BUILDING)],
+            ENTER => vec![self.thread(false), self.rng.word(), self.rng.word(), self.rng.word()],
+            RESUME => vec![self.thread(true)],
+            STOP => vec![self.live_space()],
+            REMOVE => vec![self.removable()],
+            GET_RANDOM | EXIT => vec![self.rng.word()],
+            ATTEST => self.words(HASH_WORDS),
+            VERIFY => self.verify(),
+            SPARE_TABLE => vec![self.own(SPARE), self.index()],
+            MAP_DATA => vec![self.own(SPARE), self.mapping(self.owner(), RIGHTS)],
+            UNMAP_DATA => vec![self.own(DATA)],
+            INTERRUPT => self.words(SAVED_WORDS),
+            LOAD => vec![self.address()],
+            STORE => vec![self.address(), self.rng.word()],
             _ => Vec::new(),
         }
     }
@@ -213,11 +260,12 @@ impl Draw<'_, '_> {
 
     /// A first-level index: few different ones, so that they meet.
     fn index(&mut self) -> u32 {
-        let any = self.rng.below(256);
+        let beyond = MOST_TABLES as u32;
+        let any = self.rng.below(beyond);
         match self.rng.below(14) {
-            0 => self.rng.pick(&[256, 257, 512, 1 << 31, u32::MAX]),
+            0 => self.rng.pick(&[beyond, beyond + 1, 2 * beyond, 1 << 31, u32::MAX]),
             1 => any,
-            _ => self.rng.pick(&[0, 0, 1, 2, 3, 255]),
+            _ => self.rng.pick(&[0, 0, 1, 2, 3, beyond - 1]),
         }
     }
 
@@ -225,16 +273,17 @@ impl Draw<'_, '_> {
     fn mapping(&mut self, space: usize, rights: u32) -> u32 {
         let tables = self.view.tables(space);
         let index = match self.rng.pick_any(&tables) {
-            Some(table) if !self.rng.once_in(10) => self.view.record(table)[2],
-            _ => self.index() & 255,
+            Some(table) if !self.rng.once_in(10) => self.view.record(table)[word::INDEX],
+            _ => self.index() % MOST_TABLES as u32,
         };
+        let slots = FRAME_WORDS as u32;
         let slot = match self.rng.below(3) {
-            0 => self.rng.below(1024),
-            _ => self.rng.pick(&[0, 1, 2, 512, 1022, 1023]),
+            0 => self.rng.below(slots),
+            _ => self.rng.pick(&[0, 1, 2, slots / 2, slots - 2, slots - 1]),
         };
-        let word = Mapping::at(index as usize, slot as usize, 1 | self.rng.word() & rights).0;
+        let word = Mapping::at(index as usize, slot as usize, READ | self.rng.word() & rights).0;
         match self.rng.below(16) {
-            0 => word & !1,
+            0 => word & !READ,
             1 => word | 1 << self.rng.pick(&[3, 4, 7, 11, 30, 31]),
             _ => word,
         }
@@ -259,39 +308,41 @@ impl Draw<'_, '_> {
 
     fn map_secure(&mut self) -> Vec<u32> {
         let space = self.space(BUILDING);
-        let map = self.mapping(space as usize, 6);
+        let map = self.mapping(space as usize, WRITE | EXECUTE);
         vec![space, self.free_page(), map, self.frame()]
     }
 
     fn map_insecure(&mut self) -> Vec<u32> {
         let space = self.space(BUILDING);
-        let rights = self.rng.pick(&[2, 2, 2, 2, 6]);
+        let rights = self.rng.pick(&[WRITE, WRITE, WRITE, WRITE, WRITE | EXECUTE]);
         let map = self.mapping(space as usize, rights);
         vec![space, map, self.frame()]
     }
 
     /// An attestation that holds, every other time with one word changed.
     fn verify(&mut self) -> Vec<u32> {
-        let (data, measurement) = (self.words(8), self.words(8));
-        let key = std::array::from_fn(|i| self.view.ledger[1 + i]);
+        let (data, measurement) = (self.words(HASH_WORDS), self.words(HASH_WORDS));
+        let key = std::array::from_fn(|i| self.view.ledger[KEY_START + i]);
         let mac = sha::mac(&key, &measurement, &data);
         let mut words = [data, measurement, mac.to_vec()].concat();
         if self.rng.once_in(2) {
-            words[self.rng.below(24) as usize] ^= 1 << self.rng.below(32);
+            let bit = 1 << self.rng.below(u32::BITS);
+            let place = self.rng.below(words.len() as u32) as usize;
+            words[place] ^= bit;
         }
         words
     }
 
     /// An address that is mapped for the running thread, mostly.
     fn address(&mut self) -> u32 {
-        let word = self.mapped().unwrap_or_else(|| self.rng.word() & 0x3fff_f000)
-            | self.rng.below(1024) << 2;
+        let word = self.mapped().unwrap_or_else(|| self.rng.word() & PAGE_ADDRESS)
+            | (self.rng.below(FRAME_WORDS as u32) * WORD_BYTES);
         match self.rng.below(40) {
-            0 => word | (1 + self.rng.below(3)),
-            1 => word | 1 << 30,
-            2 => word | 1 << 31,
-            3 => word ^ 1 << 22,
-            4 => word ^ 1 << 12,
+            0 => word | (1 + self.rng.below(WORD_BYTES - 1)),
+            1 => word | ADDRESSES,
+            2 => word | ADDRESSES << 1,
+            3 => word ^ 1 << INDEX_SHIFT,
+            4 => word ^ 1 << PAGE_SHIFT,
             5 => self.rng.word(),
             _ => word,
         }
@@ -302,9 +353,10 @@ impl Draw<'_, '_> {
         let mut tables = self.view.tables(self.owner());
         tables.retain(|table| self.view.words(*table).iter().any(|word| *word != 0));
         let table = self.rng.pick_any(&tables)?;
-        let slots = (0..).zip(self.view.words(table)).filter(|(_, word)| **word != 0);
-        let slots: Vec<u32> = slots.map(|(slot, _)| slot).collect();
+        let slots = self.view.words(table).iter().enumerate().filter(|(_, word)| **word != 0);
+        let slots: Vec<usize> = slots.map(|(slot, _)| slot).collect();
         let slot = self.rng.pick_any(&slots)?;
-        Some(self.view.record(table)[2] << 22 | slot << 12)
+        let index = self.view.record(table)[word::INDEX];
+        Some(Mapping::at(index as usize, slot, 0).0)
     }
 }

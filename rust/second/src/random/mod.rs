@@ -11,7 +11,8 @@ pub use damage::{damage, kinds, Kind, Verdict};
 pub use draw::next_call;
 pub use view::View;
 
-use crate::machine::{Machine, FRAME_WORDS};
+use crate::layout::{FRAME_WORDS, HASH_WORDS, MOST_FRAMES, MOST_PAGES};
+use crate::machine::Machine;
 use crate::service::{boot, DONE};
 
 /// A xorshift generator with a multiplied output.
@@ -86,23 +87,22 @@ fn shape(rng: &mut Rng, pages: u32) -> Machine {
 pub fn random_machine(rng: &mut Rng) -> Machine {
     let few = 1 + rng.below(20);
     let sizes = [few, few, few, 6, 8, 8, 10, 14, 16, 31, 32, 33, 64];
-    let pages = if rng.once_in(24) { rng.pick(&[1, 2, 100, 255, 256]) } else { rng.pick(&sizes) };
+    let odd = [1, 2, 100, MOST_PAGES - 1, MOST_PAGES];
+    let pages = if rng.once_in(24) { rng.pick(&odd) } else { rng.pick(&sizes) };
     let mut machine = shape(rng, pages);
     if rng.once_in(64) {
-        machine.frames = 4096;
+        machine.frames = MOST_FRAMES;
     }
     machine
 }
 
+const fn machine(frames: u32, secure: u32, pages: u32, monitor: u32, monitors: u32) -> Machine {
+    Machine { frames, secure, pages, monitor, monitors }
+}
+
 /// Machines at the limits of the rules, all fitting.
 pub fn limit_machines() -> Vec<Machine> {
-    let machine = |frames, secure, pages, monitor, monitors| Machine {
-        frames,
-        secure,
-        pages,
-        monitor,
-        monitors,
-    };
+    let rest = MOST_FRAMES - MOST_PAGES;
     vec![
         machine(2, 0, 1, 1, 1),
         machine(2, 1, 1, 0, 1),
@@ -111,10 +111,10 @@ pub fn limit_machines() -> Vec<Machine> {
         machine(16, 6, 8, 0, 2),
         machine(12, 0, 8, 10, 2),
         machine(9, 0, 8, 8, 1),
-        machine(258, 2, 256, 0, 1),
-        machine(300, 0, 256, 256, 44),
-        machine(4096, 3840, 256, 0, 3839),
-        machine(4096, 17, 32, 4095, 1),
+        machine(MOST_PAGES + 2, 2, MOST_PAGES, 0, 1),
+        machine(MOST_PAGES + 44, 0, MOST_PAGES, MOST_PAGES, 44),
+        machine(MOST_FRAMES, rest, MOST_PAGES, 0, rest - 1),
+        machine(MOST_FRAMES, 17, 32, MOST_FRAMES - 1, 1),
     ]
 }
 
@@ -124,16 +124,17 @@ pub fn unfit_machines() -> Vec<Machine> {
     let fit = Machine { frames: 16, secure: 6, pages: 8, monitor: 0, monitors: 2 };
     let most = u32::MAX;
     let mut list = vec![Machine { frames: 1, secure: 0, pages: 1, monitor: 0, monitors: 1 }];
-    list.extend([0, 1, 2, 13, 4097, most].map(|frames| Machine { frames, ..fit }));
-    list.extend([0, 11, 257, most, most - 5, most - 4].map(|pages| Machine { pages, ..fit }));
+    list.extend([0, 1, 2, 13, MOST_FRAMES + 1, most].map(|frames| Machine { frames, ..fit }));
+    let pages = [0, 11, MOST_PAGES + 1, most, most - 5, most - 4];
+    list.extend(pages.map(|pages| Machine { pages, ..fit }));
     list.extend([0, 1, 9, 16, most, most - 7, most - 6].map(|secure| Machine { secure, ..fit }));
     list.extend([0, 7, 15, 17, most, most - 1].map(|monitors| Machine { monitors, ..fit }));
     list.extend([5, 6, 13, 15, 16, most, most - 1].map(|monitor| Machine { monitor, ..fit }));
     list.extend([
-        Machine { frames: 4097, secure: 0, pages: 256, monitor: 256, monitors: 1 },
-        Machine { frames: 4096, secure: 0, pages: 257, monitor: 300, monitors: 1 },
-        Machine { frames: 4096, secure: 4000, pages: 97, monitor: 0, monitors: 1 },
-        Machine { frames: 4096, secure: 0, pages: 1, monitor: 1, monitors: 4096 },
+        machine(MOST_FRAMES + 1, 0, MOST_PAGES, MOST_PAGES, 1),
+        machine(MOST_FRAMES, 0, MOST_PAGES + 1, MOST_PAGES + 44, 1),
+        machine(MOST_FRAMES, MOST_FRAMES - 96, 97, 0, 1),
+        machine(MOST_FRAMES, 0, 1, 1, MOST_FRAMES),
     ]);
     list
 }
@@ -142,7 +143,7 @@ pub fn unfit_machines() -> Vec<Machine> {
 pub fn fresh(rng: &mut Rng, machine: Machine) -> (Vec<u32>, Vec<u32>) {
     let mut memory: Vec<u32> = (0..machine.memory_words()).map(|_| rng.word()).collect();
     let mut ledger: Vec<u32> = (0..machine.ledger_words()).map(|_| rng.word()).collect();
-    let key: Vec<u32> = (0..8).map(|_| rng.word()).collect();
+    let key: Vec<u32> = (0..HASH_WORDS).map(|_| rng.word()).collect();
     assert_eq!(boot(machine, &key, &mut memory, &mut ledger), DONE);
     (memory, ledger)
 }

@@ -1,5 +1,6 @@
 //! The lent words of an accepted state, for choosing what to do next.
 
+use crate::layout::{kind, record_of, word, RUNNING};
 use crate::machine::Machine;
 
 /// A look at the lent words.
@@ -13,44 +14,32 @@ pub struct View<'a> {
     pub ledger: &'a [u32],
 }
 
-pub(super) const FREE: u32 = 0;
-pub(super) const SPACE: u32 = 1;
-pub(super) const THREAD: u32 = 2;
-pub(super) const FIRST: u32 = 3;
-pub(super) const TABLE: u32 = 4;
-pub(super) const DATA: u32 = 5;
-pub(super) const SPARE: u32 = 6;
-
-pub(super) const BUILDING: u32 = 0;
-pub(super) const FINAL: u32 = 1;
-pub(super) const STOPPED: u32 = 2;
-
 impl<'a> View<'a> {
     /// The record of a page.
     pub(super) fn record(&self, page: usize) -> &'a [u32] {
-        &self.ledger[32 + 32 * page..][..32]
+        &self.ledger[record_of(page)]
     }
 
     pub(super) fn kind(&self, page: usize) -> u32 {
-        self.record(page)[0]
+        self.record(page)[word::TYPE]
     }
 
     pub(super) fn owner(&self, page: usize) -> usize {
-        self.record(page)[1] as usize
+        self.record(page)[word::OWNER] as usize
     }
 
     /// The state of the space that owns this page in use.
     pub(super) fn owner_state(&self, page: usize) -> u32 {
-        self.record(self.owner(page))[3]
+        self.record(self.owner(page))[word::STATE]
     }
 
     pub(super) fn suspended(&self, page: usize) -> bool {
-        self.record(page)[3] == 1
+        self.record(page)[word::SUSPENDED] == 1
     }
 
     /// The running thread's page.
     pub(super) fn running(&self) -> Option<usize> {
-        self.ledger[0].checked_sub(1).map(|page| page as usize)
+        self.ledger[RUNNING].checked_sub(1).map(|page| page as usize)
     }
 
     /// The words of a secure page.
@@ -70,6 +59,6 @@ impl<'a> View<'a> {
 
     /// The tables of a space.
     pub(super) fn tables(&self, space: usize) -> Vec<usize> {
-        self.pages(|view, page| view.kind(page) == TABLE && view.owner(page) == space)
+        self.pages(|view, page| view.kind(page) == kind::SECOND && view.owner(page) == space)
     }
 }
