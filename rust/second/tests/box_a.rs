@@ -1,9 +1,9 @@
 //! "A shift on box A", row by row, with every word the description names.
 
-use second::sha::{bytes, digest, mac};
-use second::{accepts, batch, boot, direct, Machine};
-
-const BOX_A: Machine = Machine { frames: 16, secure: 6, pages: 8, monitor: 0, monitors: 2 };
+use second::cases::BOX_A;
+use second::layout::{record_of, Record, FRAME_WORDS, KEY_START, MAP_START, RECORD_WORDS};
+use second::sha::{bytes, digest, mac, Hash};
+use second::{accepts, batch, boot, direct};
 
 struct Shift {
     memory: Vec<u32>,
@@ -11,19 +11,19 @@ struct Shift {
 }
 
 impl Shift {
-    fn fresh(key: [u32; 8]) -> Shift {
+    fn fresh(key: Hash) -> Shift {
         let mut memory: Vec<u32> =
-            (0..16 * 1024).map(|i: u32| i.wrapping_mul(2654435761)).collect();
-        let mut ledger = vec![0xdead_beef; 32 + 32 * 8];
+            (0..BOX_A.memory_words() as u32).map(|i| i.wrapping_mul(2654435761)).collect();
+        let mut ledger = vec![0xdead_beef; BOX_A.ledger_words()];
         assert_eq!(boot(BOX_A, &key, &mut memory, &mut ledger), 0);
         Shift { memory, ledger }
     }
 
     /// The whole answer record of one call in a batch of its own.
-    fn call(&mut self, words: &[u32]) -> [u32; 32] {
-        let mut record = [0; 32];
+    fn call(&mut self, words: &[u32]) -> Record {
+        let mut record = [0; RECORD_WORDS];
         record[..words.len()].copy_from_slice(words);
-        let mut answer = [0xdead_beef; 32];
+        let mut answer = [0xdead_beef; RECORD_WORDS];
         let code = batch(BOX_A, &mut self.memory, &mut self.ledger, &record, &mut answer);
         assert_eq!(code, 0);
         assert!(accepts(BOX_A, &self.memory, &self.ledger));
@@ -33,24 +33,24 @@ impl Shift {
 
     /// The answer record must be this, then zeros.
     fn gives(&mut self, words: &[u32], answer: &[u32]) {
-        let mut expected = [0; 32];
+        let mut expected = [0; RECORD_WORDS];
         expected[..answer.len()].copy_from_slice(answer);
         assert_eq!(self.call(words), expected, "call {words:?}");
     }
 
     fn record(&self, page: usize) -> &[u32] {
-        &self.ledger[32 + 32 * page..][..32]
+        &self.ledger[record_of(page)]
     }
 
     fn page(&self, page: usize) -> &[u32] {
-        &self.memory[(6 + page) * 1024..][..1024]
+        &self.memory[BOX_A.words_of(page)]
     }
 }
 
-fn whole_shift(key: [u32; 8]) {
+fn whole_shift(key: Hash) {
     let mut shift = Shift::fresh(key);
-    assert_eq!(shift.ledger[1..9], key);
-    assert_eq!(shift.ledger[9], 255);
+    assert_eq!(shift.ledger[KEY_START..MAP_START], key);
+    assert_eq!(shift.ledger[MAP_START], 255);
     row_1(&mut shift);
     row_2(&mut shift);
     row_3(&mut shift);
@@ -90,24 +90,24 @@ fn row_3(shift: &mut Shift) {
     shift.gives(&[6, 0, 3, 4099, 5], &[0]);
     assert_eq!(shift.page(2)[1], 36867);
     assert_eq!(shift.record(3)[..3], [5, 0, 4099]);
-    assert_eq!(shift.page(3), &shift.memory[5 * 1024..6 * 1024]);
+    assert_eq!(shift.page(3), &shift.memory[5 * FRAME_WORDS..6 * FRAME_WORDS]);
 }
 
 fn row_4(shift: &mut Shift) {
     shift.gives(&[3, 0, 4, 4096], &[0]);
     assert_eq!(shift.record(0)[5], 66);
     assert_eq!(shift.record(0)[4], 4);
-    assert_eq!(shift.ledger[9], 224);
+    assert_eq!(shift.ledger[MAP_START], 224);
     shift.gives(&[13], &[0, 3, 5]);
     shift.gives(&[9, 4], &[5]);
 }
 
 /// The measurement as the hash of the whole message: page 3 at 4096 with the
 /// words of frame 5, then the thread with entry 4096.
-fn measurement(shift: &Shift) -> [u32; 8] {
+fn measurement(shift: &Shift) -> Hash {
     let mut message = vec![0; 16];
     message[..2].copy_from_slice(&[2, 4096]);
-    message.extend(&shift.memory[5 * 1024..6 * 1024]);
+    message.extend(&shift.memory[5 * FRAME_WORDS..6 * FRAME_WORDS]);
     message.extend([1, 4096].iter().chain(&[0; 14]));
     digest(&bytes(&message))
 }
@@ -117,7 +117,7 @@ fn row_5(shift: &mut Shift) {
     shift.gives(&[8, 0], &[4]);
     assert_eq!(shift.record(0)[5], 66);
     assert_eq!(shift.record(0)[6..14], measurement(shift));
-    let mut whole = [0; 32];
+    let mut whole = [0; RECORD_WORDS];
     whole[1..4].copy_from_slice(&[7, 8, 9]);
     whole[16] = 4096;
     assert_eq!(shift.call(&[9, 4, 7, 8, 9]), whole);
@@ -134,9 +134,9 @@ fn row_6(shift: &mut Shift) {
 }
 
 /// Beyond the rows: what the thread attests, any thread can verify.
-fn attestation(shift: &mut Shift, key: [u32; 8]) {
+fn attestation(shift: &mut Shift, key: Hash) {
     let data = [11, 12, 13, 14, 15, 16, 17, 18];
-    let measurement: [u32; 8] = shift.record(0)[6..14].try_into().unwrap();
+    let measurement: Hash = shift.record(0)[6..14].try_into().unwrap();
     let expected = mac(&key, &measurement, &data);
     shift.gives(&[&[33][..], &data].concat(), &[&[0][..], &expected].concat());
     let good = [&[34][..], &data, &measurement, &expected].concat();
@@ -164,7 +164,7 @@ fn row_7(shift: &mut Shift) {
     saved[0] = 0;
     saved[17] = 0xf000_0000;
     shift.gives(&[10, 4], &saved);
-    assert_eq!(shift.record(4)[3..], [0; 29]);
+    assert_eq!(shift.record(4)[3..], [0; RECORD_WORDS - 3]);
     shift.gives(&[38, 5], &[0, 5]);
     shift.gives(&[12, 3], &[13]);
 }

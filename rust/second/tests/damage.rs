@@ -1,6 +1,7 @@
 //! Damaged states: acceptance says what each kind of damage calls for, both
 //! checks say the same, and a batch on a refused state changes nothing.
 
+use second::layout::RECORD_WORDS;
 use second::random::{
     damage, fresh, kinds, limit_machines, next_call, random_machine, Rng, Verdict, View,
 };
@@ -17,7 +18,7 @@ fn both(machine: Machine, memory: &[u32], ledger: &[u32]) -> bool {
 fn walk(rng: &mut Rng, machine: Machine, memory: &mut [u32], ledger: &mut [u32], calls: u32) {
     for _ in 0..calls {
         let call = next_call(rng, View { machine, memory, ledger });
-        let mut answer = [0; 32];
+        let mut answer = [0; RECORD_WORDS];
         assert_eq!(batch(machine, memory, ledger, &call, &mut answer), 0);
     }
 }
@@ -25,7 +26,7 @@ fn walk(rng: &mut Rng, machine: Machine, memory: &mut [u32], ledger: &mut [u32],
 /// A batch on a refused state, of one record or none.
 fn batch_refused(rng: &mut Rng, machine: Machine, memory: &[u32], ledger: &[u32]) {
     let (mut mem, mut led) = (memory.to_vec(), ledger.to_vec());
-    let calls = vec![0; 32 * rng.below(2) as usize];
+    let calls = vec![0; RECORD_WORDS * rng.below(2) as usize];
     let mut answers = vec![9; calls.len()];
     assert_eq!(batch(machine, &mut mem, &mut led, &calls, &mut answers), 18);
     assert!(mem == memory && led == ledger && answers.iter().all(|word| *word == 9));
@@ -100,13 +101,14 @@ fn the_two_checks_agree_on_random_words() {
     let mut rng = Rng::new(23);
     let machine = Machine { frames: 6, secure: 2, pages: 3, monitor: 0, monitors: 1 };
     for _ in 0..20_000 {
-        let (mut memory, mut ledger) = (vec![0; 6 * 1024], vec![0; 32 * 4]);
+        let (mut memory, mut ledger) =
+            (vec![0; machine.memory_words()], vec![0; machine.ledger_words()]);
         for _ in 0..rng.below(40) {
-            let place = rng.below(4 * 32) as usize;
+            let place = rng.below(ledger.len() as u32) as usize;
             ledger[place] = rng.below(8);
         }
         for _ in 0..rng.below(4) {
-            let place = rng.below(6 * 1024) as usize;
+            let place = rng.below(memory.len() as u32) as usize;
             memory[place] = rng.word();
         }
         both(machine, &memory, &ledger);

@@ -1,9 +1,12 @@
 //! 18, or no, for numbers and lengths that do not fit, with nothing changed.
 
+use second::cases::BOX_A;
+use second::layout::{
+    FRAME_WORDS, HASH_WORDS, HEADER_WORDS, KEY_START, MAP_END, MAP_START, MOST_CALLS, MOST_FRAMES,
+    MOST_PAGES, RECORD_WORDS, RUNNING,
+};
 use second::random::{fresh, limit_machines, random_machine, unfit_machines, Rng};
 use second::{accepts, batch, boot, direct, Machine};
-
-const BOX_A: Machine = Machine { frames: 16, secure: 6, pages: 8, monitor: 0, monitors: 2 };
 
 /// Lists of random words of these lengths, to see that nothing is written.
 struct Lent {
@@ -26,10 +29,11 @@ fn fitting(rng: &mut Rng, machine: Machine, records: usize) -> Lent {
         // Lengths that would fit, as far as such lists can be had.
         let frames = machine.frames.min(5000) as usize;
         let pages = machine.pages.min(5000) as usize;
-        (words(rng, 1024 * frames), words(rng, 32 + 32 * pages))
+        (words(rng, FRAME_WORDS * frames), words(rng, HEADER_WORDS + RECORD_WORDS * pages))
     };
-    let calls = (0..records).flat_map(|_| [1].into_iter().chain([0; 31])).collect();
-    Lent { key: words(rng, 8), memory, ledger, calls, answers: words(rng, 32 * records) }
+    let calls = (0..records).flat_map(|_| [1].into_iter().chain([0; RECORD_WORDS - 1])).collect();
+    let (key, answers) = (words(rng, HASH_WORDS), words(rng, RECORD_WORDS * records));
+    Lent { key, memory, ledger, calls, answers }
 }
 
 /// All three services refuse and write nothing.
@@ -68,7 +72,7 @@ fn fitting_numbers_are_obeyed() {
         assert_eq!(batch(machine, memory, ledger, calls, answers), 0);
         assert_eq!(answers[..3], [0, machine.pages, 0]);
         assert_eq!(boot(machine, key, memory, ledger), 0);
-        assert_eq!(ledger[1..9], key[..]);
+        assert_eq!(ledger[KEY_START..MAP_START], key[..]);
     }
 }
 
@@ -87,7 +91,7 @@ fn numbers_that_do_not_fit() {
 #[test]
 fn numbers_near_the_limits() {
     let near = [0, 1, 2, 3, 4, 5, u32::MAX - 2, u32::MAX - 1, u32::MAX];
-    for frames in [0, 1, 2, 4, 5, 4096, 4097, u32::MAX] {
+    for frames in [0, 1, 2, 4, 5, MOST_FRAMES, MOST_FRAMES + 1, u32::MAX] {
         for (secure, pages) in pairs(&near) {
             for (monitor, monitors) in pairs(&near) {
                 let machine = Machine { frames, secure, pages, monitor, monitors };
@@ -103,7 +107,8 @@ fn pairs(numbers: &[u32]) -> Vec<(u32, u32)> {
 
 /// The rule once more, frame by frame where that can be done.
 fn plainly_fits(m: Machine) -> bool {
-    if m.frames > 4096 || m.pages > 256 || m.monitors > 4096 || m.pages * m.monitors == 0 {
+    let few = m.frames <= MOST_FRAMES && m.pages <= MOST_PAGES && m.monitors <= MOST_FRAMES;
+    if !few || m.pages * m.monitors == 0 {
         return false;
     }
     let secure: Vec<u128> = (0..m.pages).map(|i| m.secure as u128 + i as u128).collect();
@@ -142,16 +147,17 @@ fn lists_one_word_longer_and_shorter() {
 #[test]
 fn call_lists_that_do_not_fit() {
     let mut rng = Rng::new(4);
-    for length in [1, 16, 31, 33, 63, 32 * 512 - 1, 32 * 512 + 1, 32 * 513] {
+    let (one, most) = (RECORD_WORDS, RECORD_WORDS * MOST_CALLS);
+    for length in [1, 16, one - 1, one + 1, 2 * one - 1, most - 1, most + 1, most + one] {
         let mut lent = fitting(&mut rng, BOX_A, 0);
         lent.calls = vec![0; length];
         lent.answers = words(&mut rng, length);
         batch_refused(BOX_A, &mut lent);
     }
-    let mut most = fitting(&mut rng, BOX_A, 512);
-    let Lent { memory, ledger, calls, answers, .. } = &mut most;
+    let mut lent = fitting(&mut rng, BOX_A, MOST_CALLS);
+    let Lent { memory, ledger, calls, answers, .. } = &mut lent;
     assert_eq!(batch(BOX_A, memory, ledger, calls, answers), 0);
-    assert_eq!(answers[32 * 511..][..3], [0, 8, 0]);
+    assert_eq!(answers[most - one..][..3], [0, BOX_A.pages, 0]);
 }
 
 /// Boot asks nothing of the old words and leaves the other frames alone.
@@ -161,17 +167,18 @@ fn boot_on_any_words() {
     for machine in limit_machines() {
         let mut memory = words(&mut rng, machine.memory_words());
         let mut ledger = words(&mut rng, machine.ledger_words());
-        let (old, key) = (memory.clone(), words(&mut rng, 8));
+        let (old, key) = (memory.clone(), words(&mut rng, HASH_WORDS));
         assert_eq!(boot(machine, &key, &mut memory, &mut ledger), 0);
         for frame in 0..machine.frames {
-            let range = frame as usize * 1024..(frame as usize + 1) * 1024;
+            let range = frame as usize * FRAME_WORDS..(frame as usize + 1) * FRAME_WORDS;
             match machine.page_in(frame) {
                 Some(_) => assert!(memory[range].iter().all(|word| *word == 0)),
                 None => assert!(memory[range.clone()] == old[range]),
             }
         }
         assert!(accepts(machine, &memory, &ledger));
-        assert_eq!(ledger[0], 0);
-        assert_eq!(ledger[9..17].iter().map(|w| w.count_ones()).sum::<u32>(), machine.pages);
+        assert_eq!(ledger[RUNNING], 0);
+        let free = ledger[MAP_START..MAP_END].iter().map(|word| word.count_ones());
+        assert_eq!(free.sum::<u32>(), machine.pages);
     }
 }

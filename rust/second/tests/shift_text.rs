@@ -2,6 +2,7 @@
 //! expected, and its lines have their form.
 
 use second::cases::{BOX_A, CASES};
+use second::layout::RECORD_WORDS;
 use second::random::Coverage;
 use second::shift::{answers, record, start, text};
 use second::{accepts, batch, direct};
@@ -102,7 +103,7 @@ fn the_cases_reach_every_answer() {
 fn the_state_stays_accepted() {
     let (mut memory, mut ledger) = start();
     for row in CASES {
-        let mut answer = [0; 32];
+        let mut answer = [0; RECORD_WORDS];
         assert_eq!(batch(BOX_A, &mut memory, &mut ledger, &record(row), &mut answer), 0);
         assert!(accepts(BOX_A, &memory, &ledger), "{row:?}");
         assert!(direct::accepts(BOX_A, &memory, &ledger), "{row:?}");

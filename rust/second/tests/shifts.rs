@@ -1,10 +1,14 @@
 //! Long random shifts: acceptance is kept, refusals change nothing, batches
 //! may be cut anywhere, and every answer the rules allow comes up.
 
+use second::calls::{number, Code};
+use second::layout::{
+    Record, FRAME_WORDS, KEY_START, MAP_START, MOST_CALLS, RECORD_WORDS, RUNNING,
+};
 use second::random::{
     fresh, limit_machines, next_call, outsider, random_machine, Coverage, Rng, View,
 };
-use second::{accepts, batch, direct, Machine};
+use second::{accepts, batch, direct, Machine, DONE};
 
 /// A machine and what it lends.
 struct Lent {
@@ -24,7 +28,7 @@ impl Lent {
         Lent { machine: self.machine, memory, ledger }
     }
 
-    fn draw(&self, rng: &mut Rng) -> [u32; 32] {
+    fn draw(&self, rng: &mut Rng) -> Record {
         let (machine, memory, ledger) = (self.machine, &self.memory, &self.ledger);
         next_call(rng, View { machine, memory, ledger })
     }
@@ -45,15 +49,17 @@ impl Lent {
 
 /// What every answer must keep, whatever the call.
 fn check_answer(before: &Lent, after: &Lent, call: &[u32], answer: &[u32]) {
-    if answer[0] != 0 {
-        assert_eq!(answer[1..], [0; 31], "a number, then zeros: call {call:?}");
+    if answer[0] != DONE {
+        assert_eq!(answer[1..], [0; RECORD_WORDS - 1], "a number, then zeros: call {call:?}");
         assert!(before.memory == after.memory, "call {call:?} gave {}", answer[0]);
     }
+    const INTERRUPTED: u32 = Code::Interrupted as u32;
+    const FAULTED: u32 = Code::Faulted as u32;
     match answer[0] {
-        0 => {}
-        32 => assert_eq!(after.ledger[0], 0),
-        33 => {
-            assert_eq!(after.ledger[0], 0);
+        DONE => {}
+        INTERRUPTED => assert_eq!(after.ledger[RUNNING], 0),
+        FAULTED => {
+            assert_eq!(after.ledger[RUNNING], 0);
             assert_eq!(before.ledger[1..], after.ledger[1..]);
         }
         _ => assert!(before.ledger == after.ledger, "call {call:?} gave {}", answer[0]),
@@ -63,11 +69,11 @@ fn check_answer(before: &Lent, after: &Lent, call: &[u32], answer: &[u32]) {
 /// No call writes the key, a monitor frame or, but for Store, any frame that
 /// is not secure.
 fn check_frames(before: &Lent, after: &Lent, call: &[u32]) {
-    assert_eq!(before.ledger[1..9], after.ledger[1..9]);
+    assert_eq!(before.ledger[KEY_START..MAP_START], after.ledger[KEY_START..MAP_START]);
     let machine = before.machine;
     for frame in (0..machine.frames).filter(|frame| machine.page_in(*frame).is_none()) {
-        let words = frame as usize * 1024..(frame as usize + 1) * 1024;
-        let stored = call[0] == 42 && machine.is_insecure(frame);
+        let words = frame as usize * FRAME_WORDS..(frame as usize + 1) * FRAME_WORDS;
+        let stored = call[0] == number::STORE && machine.is_insecure(frame);
         assert!(stored || before.memory[words.clone()] == after.memory[words]);
     }
 }
@@ -122,14 +128,14 @@ fn a_batch_may_be_cut_anywhere() {
         let mut single = Lent::fresh(&mut rng, machine);
         for _ in 0..6 {
             let (mut whole, mut parts) = (single.copy(), single.copy());
-            let length = if round == 0 { 512 } else { rng.below(60) };
+            let length = if round == 0 { MOST_CALLS as u32 } else { rng.below(60) };
             let (mut calls, mut answers) = (Vec::new(), Vec::new());
             for _ in 0..length {
                 let call = single.draw(&mut rng);
                 answers.extend(single.obey(&call));
                 calls.extend(call);
             }
-            let cut = 32 * rng.below(length + 1) as usize;
+            let cut = RECORD_WORDS * rng.below(length + 1) as usize;
             assert!(whole.obey(&calls) == answers);
             assert!([parts.obey(&calls[..cut]), parts.obey(&calls[cut..])].concat() == answers);
             assert!(whole.memory == single.memory && whole.ledger == single.ledger);
@@ -164,7 +170,7 @@ fn verify_says_yes_and_no() {
     for _ in 0..20_000 {
         let call = now.draw(&mut rng);
         let answer = now.obey(&call);
-        if call[0] == 34 && answer[0] == 0 {
+        if call[0] == number::VERIFY && answer[0] == DONE {
             seen[answer[1] as usize] += 1;
         }
     }
