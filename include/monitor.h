@@ -1,8 +1,8 @@
 /* The proved enclave monitor: three services for a host.
 
-   A box has F frames of 1,024 words. Its secure frames are s to s+n-1, the monitor's own m to m+k-1; every other frame below F is insecure.
-   Secure page p is frame s+p. A word is unsigned and has 32 bits. The host lends the memory (1,024F words) and the ledger (32+32n words),
-   and the services read and write them in place.
+   A box has F frames. Its secure frames are s to s+n-1, the monitor's own m to m+k-1; every other frame below F is insecure. Secure page p
+   is frame s+p. A word is unsigned and has 32 bits. The host lends the memory, F * MONITOR_FRAME_WORDS words, and the ledger,
+   MONITOR_HEADER_WORDS + n * MONITOR_RECORD_WORDS words, and the services read and write them in place.
 
    What the services promise, for any words and numbers whatever:
    - Each answers and returns. They keep nothing between calls and call nothing back.
@@ -26,8 +26,10 @@
 extern "C" {
 #endif
 
-/* Lengths in words. */
+/* Sizes. */
 enum {
+    MONITOR_MOST_FRAMES = 4096, /* F, from 1 on */
+    MONITOR_MOST_PAGES = 256,   /* n, from 1 on */
     MONITOR_FRAME_WORDS = 1024,
     MONITOR_HEADER_WORDS = 32,
     MONITOR_RECORD_WORDS = 32, /* of a page in the ledger, of a call and of its answer */
@@ -108,8 +110,8 @@ bool monitor_accepts(uint32_t F, uint32_t s, uint32_t n, uint32_t m, uint32_t k,
                      const uint32_t *memory, size_t memory_words,
                      const uint32_t *ledger, size_t ledger_words);
 
-/* A batch: 0 to 512 call records of 32 words, and an answer list of equal length. Acceptance is asked first; then the records are obeyed in
-   order, each answered in its 32 words of the answers. Answers MONITOR_DONE; MONITOR_UNFIT where numbers or lengths break the rules or
+/* A batch: 0 to MONITOR_MOST_CALLS call records, and an answer list of equal length. Acceptance is asked first; then the records are obeyed
+   in order, each answered in its record of the answers. Answers MONITOR_DONE; MONITOR_UNFIT where numbers or lengths break the rules or
    acceptance says no. From an accepted state every batch leads to an accepted state, whatever others write to insecure frames between. */
 uint32_t monitor_batch(uint32_t F, uint32_t s, uint32_t n, uint32_t m, uint32_t k,
                        uint32_t *memory, size_t memory_words,

@@ -5,10 +5,13 @@ use crate::services::Services;
 use crate::tally::Tally;
 use crate::twins::Twins;
 use crate::Outcome;
+use second::cases::BOX_A;
+use second::layout::{
+    FRAME_WORDS, HASH_WORDS, HEADER_WORDS, MOST_CALLS, MOST_FRAMES, MOST_PAGES, RECORD_WORDS,
+};
 use second::random::{fresh, unfit_machines, Rng};
 use second::{Machine, UNFIT};
 
-const BOX_A: Machine = Machine { frames: 16, secure: 6, pages: 8, monitor: 0, monitors: 2 };
 const SMALL: Machine = Machine { frames: 3, secure: 1, pages: 1, monitor: 0, monitors: 1 };
 
 /// The lists that are no part of a boot, and of a batch.
@@ -44,12 +47,12 @@ const BOUNDARY: [Machine; 18] = [
     machine(1, 0, 1, 0, 1),
     machine(1, 0, 1, 1, 1),
     machine(2, 0, 1, 1, 1),
-    machine(4096, 4095, 1, 4094, 1),
-    machine(4097, 0, 1, 1, 1),
+    machine(MOST_FRAMES, MOST_FRAMES - 1, 1, MOST_FRAMES - 2, 1),
+    machine(MOST_FRAMES + 1, 0, 1, 1, 1),
     machine(16, 6, 0, 0, 2),
     machine(16, 6, 1, 0, 2),
-    machine(260, 4, 256, 0, 4),
-    machine(261, 4, 257, 0, 4),
+    machine(MOST_PAGES + 4, 4, MOST_PAGES, 0, 4),
+    machine(MOST_PAGES + 5, 4, MOST_PAGES + 1, 0, 4),
     machine(16, 6, 8, 0, 0),
     machine(14, 6, 8, 0, 6),
     machine(14, 6, 8, 0, 7),
@@ -80,10 +83,13 @@ fn as_if_fitting(rng: &mut Rng, machine: Machine) -> Lent {
     let (memory, ledger) = if machine.fits() {
         fresh(rng, machine)
     } else {
-        let (frames, pages) = (machine.frames.min(4097), machine.pages.min(257));
-        (random_words(rng, 1024 * frames as usize), random_words(rng, 32 + 32 * pages as usize))
+        let frames = machine.frames.min(MOST_FRAMES + 1) as usize;
+        let pages = machine.pages.min(MOST_PAGES + 1) as usize;
+        let memory = random_words(rng, FRAME_WORDS * frames);
+        (memory, random_words(rng, HEADER_WORDS + RECORD_WORDS * pages))
     };
-    let (key, calls) = (random_words(rng, 8), vec![1; 32 * rng.below(2) as usize]);
+    let key = random_words(rng, HASH_WORDS);
+    let calls = vec![1; RECORD_WORDS * rng.below(2) as usize];
     Lent::new(rng, &key, &memory, &ledger, &calls)
 }
 
@@ -106,7 +112,7 @@ fn other_lengths(services: &dyn Services, rng: &mut Rng, tally: &mut Tally) -> O
     for list in KEY..=CALLS + 1 {
         for way in 0..3 {
             let mut lent = as_if_fitting(rng, machine);
-            let records = vec![1; 32 * 3];
+            let records = vec![1; RECORD_WORDS * 3];
             lent.calls.set(&records);
             lent.answers.set(&random_words(rng, records.len()));
             let mut words = lent.list(list).words().to_vec();
@@ -127,10 +133,11 @@ fn other_lengths(services: &dyn Services, rng: &mut Rng, tally: &mut Tally) -> O
 
 /// Call lists that are no records or too many, with equal answer lists.
 fn other_call_lists(services: &dyn Services, rng: &mut Rng, tally: &mut Tally) -> Outcome {
-    let any = rng.below(32 * 514) as usize;
-    for length in [1, 31, 33, 32 * 512 - 1, 32 * 512, 32 * 512 + 1, 32 * 513, any] {
+    let (one, most) = (RECORD_WORDS, RECORD_WORDS * MOST_CALLS);
+    let any = rng.below((most + 2 * one) as u32) as usize;
+    for length in [1, one - 1, one + 1, most - 1, most, most + 1, most + one, any] {
         let mut lent = as_if_fitting(rng, SMALL);
-        let calls: Vec<u32> = (0..length).map(|word| u32::from(word % 32 == 0)).collect();
+        let calls: Vec<u32> = (0..length).map(|word| u32::from(word % one == 0)).collect();
         lent.calls.set(&calls);
         lent.answers.set(&random_words(rng, length));
         all_three(services, SMALL, lent, tally)?;

@@ -5,6 +5,7 @@ use crate::services::Services;
 use crate::tally::Tally;
 use crate::twins::Twins;
 use crate::Outcome;
+use second::layout::{HASH_WORDS, MOST_CALLS, RECORD_WORDS};
 use second::random::{damage, limit_machines, outsider, random_machine, Rng};
 use second::{Machine, DONE, UNFIT};
 
@@ -68,7 +69,8 @@ fn booted<'s>(
     machine: Machine,
     tally: &mut Tally,
 ) -> Result<Twins<'s>, String> {
-    let (key, memory) = (random_words(rng, 8), random_words(rng, machine.memory_words()));
+    let key = random_words(rng, HASH_WORDS);
+    let memory = random_words(rng, machine.memory_words());
     let ledger = random_words(rng, machine.ledger_words());
     let lent = Lent::new(rng, &key, &memory, &ledger, &[]);
     let mut twins = Twins::new(services, machine, lent);
@@ -79,7 +81,7 @@ fn booted<'s>(
 /// Mostly one call at a time; the longest batch once in a while.
 fn records(rng: &mut Rng, seed: u64, turn: u32) -> usize {
     match rng.below(24) {
-        _ if turn == 3 && seed.is_multiple_of(16) => 512,
+        _ if turn == 3 && seed.is_multiple_of(16) => MOST_CALLS,
         0 => 0,
         1 | 2 => 2 + rng.below(5) as usize,
         3 if rng.once_in(4) => rng.below(60) as usize,
@@ -105,7 +107,7 @@ fn damaged(rng: &mut Rng, twins: &mut Twins, tally: &mut Tally) -> Outcome {
     }
     let yes = hurt.accepts()?;
     tally.damaged[usize::from(yes)] += 1;
-    let calls = if yes { hurt.draw(rng, 1) } else { vec![1; 32 * rng.below(2) as usize] };
+    let calls = if yes { hurt.draw(rng, 1) } else { vec![1; RECORD_WORDS * rng.below(2) as usize] };
     expect(hurt.batch(rng, &calls, tally)?, if yes { DONE } else { UNFIT })?;
     if yes && rng.once_in(2) {
         *twins = hurt;

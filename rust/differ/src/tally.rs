@@ -1,5 +1,6 @@
 //! What a run has tried so far.
 
+use second::layout::{MOST_CALLS, MOST_FRAMES, MOST_PAGES, RECORD_WORDS};
 use second::random::Coverage;
 use std::collections::{BTreeMap, BTreeSet};
 use std::fmt;
@@ -30,10 +31,19 @@ pub struct Tally {
 }
 
 /// What a whole run must have met of each.
-const FRAMES: [u32; 6] = [0, 1, 2, 4096, 4097, u32::MAX];
-const PAGES: [u32; 6] = [0, 1, 2, 256, 257, u32::MAX];
-const BATCHES: [usize; 3] = [0, 1, 512];
-const LENGTHS: [usize; 8] = [1, 31, 32, 33, 32 * 512 - 1, 32 * 512, 32 * 512 + 1, 32 * 513];
+const FRAMES: [u32; 6] = [0, 1, 2, MOST_FRAMES, MOST_FRAMES + 1, u32::MAX];
+const PAGES: [u32; 6] = [0, 1, 2, MOST_PAGES, MOST_PAGES + 1, u32::MAX];
+const BATCHES: [usize; 3] = [0, 1, MOST_CALLS];
+const LENGTHS: [usize; 8] = [
+    1,
+    RECORD_WORDS - 1,
+    RECORD_WORDS,
+    RECORD_WORDS + 1,
+    RECORD_WORDS * MOST_CALLS - 1,
+    RECORD_WORDS * MOST_CALLS,
+    RECORD_WORDS * MOST_CALLS + 1,
+    RECORD_WORDS * (MOST_CALLS + 1),
+];
 
 /// What of these is not among those.
 fn absent<T: Ord + fmt::Display>(what: &str, wanted: &[T], met: &BTreeSet<T>) -> Vec<String> {
@@ -53,11 +63,13 @@ impl Tally {
 
     /// Counts an obeyed batch.
     pub fn note(&mut self, calls: &[u32], answers: &[u32]) {
-        for (call, answer) in calls.chunks_exact(32).zip(answers.chunks_exact(32)) {
+        for (call, answer) in
+            calls.chunks_exact(RECORD_WORDS).zip(answers.chunks_exact(RECORD_WORDS))
+        {
             self.coverage.note(call, answer);
             self.calls += 1;
         }
-        *self.batches.entry(calls.len() / 32).or_default() += 1;
+        *self.batches.entry(calls.len() / RECORD_WORDS).or_default() += 1;
     }
 
     /// What a whole run must have met and has not, or has and must not.
@@ -87,7 +99,7 @@ impl fmt::Display for Tally {
         let [none, one, most] = BATCHES.map(of);
         writeln!(
             out,
-            "{} rounds: {} calls in {all} batches ({none} of 0 records, {one} of 1, {most} of 512)",
+            "{} rounds: {} calls in {all} batches ({none} of 0 records, {one} of 1, {most} of {MOST_CALLS})",
             self.rounds, self.calls
         )?;
         writeln!(

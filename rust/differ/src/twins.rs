@@ -4,6 +4,7 @@ use crate::lent::{random_words, Lent, NAMES};
 use crate::services::{Second, Services};
 use crate::tally::Tally;
 use crate::Outcome;
+use second::layout::RECORD_WORDS;
 use second::random::{next_call, Rng, View};
 use second::{Machine, DONE};
 
@@ -112,7 +113,7 @@ impl<'s> Twins<'s> {
         let mut calls = Vec::new();
         for _ in 0..records {
             let call = next_call(rng, View { machine, memory: &memory, ledger: &ledger });
-            second::batch(machine, &mut memory, &mut ledger, &call, &mut [0; 32]);
+            second::batch(machine, &mut memory, &mut ledger, &call, &mut [0; RECORD_WORDS]);
             calls.extend(call);
         }
         calls
@@ -143,7 +144,7 @@ impl<'s> Twins<'s> {
     fn lent_in_words(&self) -> String {
         let calls = self.theirs.calls.words();
         let lengths = self.theirs.lists().map(|list| list.words().len());
-        let shown = &calls[..calls.len().min(32)];
+        let shown = &calls[..calls.len().min(RECORD_WORDS)];
         format!("{:?}, lengths {NAMES:?} {lengths:?}, first call {shown:?}", self.machine)
     }
 }

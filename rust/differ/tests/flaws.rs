@@ -3,7 +3,12 @@
 use differ::round;
 use differ::services::{Second, Services};
 use differ::tally::Tally;
-use second::{accepts, batch, boot, Machine};
+use second::calls::{number, Code};
+use second::layout::{
+    kind, record_of, state, word, FRAME_WORDS, HASH_WORDS, HEADER_WORDS, MAP_END, MOST_CALLS,
+    MOST_PAGES, RECORD_WORDS, SAVED_WORDS,
+};
+use second::{accepts, batch, boot, Machine, DONE, UNFIT};
 
 type Boot = fn(Machine, &[u32], &mut [u32], &mut [u32]) -> u32;
 type Accepts = fn(Machine, &[u32], &[u32]) -> bool;
@@ -47,6 +52,11 @@ impl Services for Flaw {
     }
 }
 
+/// The records of a ledger, be it one or not.
+fn pages(ledger: &[u32]) -> impl Iterator<Item = &[u32]> {
+    ledger.get(HEADER_WORDS..).unwrap_or_default().chunks_exact(RECORD_WORDS)
+}
+
 /// The first difference in so many rounds.
 fn difference(services: &dyn Services, rounds: u64) -> Option<String> {
     let mut tally = Tally::default();
@@ -69,17 +79,18 @@ fn wrong_boots() {
     told_apart(
         "boots with a key of any length",
         Flaw::Boot(|m, key, mem, led| {
-            let key: Vec<u32> = key.iter().copied().chain([0; 8]).take(8).collect();
+            let key: Vec<u32> =
+                key.iter().copied().chain([0; HASH_WORDS]).take(HASH_WORDS).collect();
             boot(m, &key, mem, led)
         }),
     );
     told_apart(
         "leaves the last secure word",
         Flaw::Boot(|m, key, mem, led| {
-            let last = (m.secure as usize + m.pages as usize) * 1024;
+            let last = (m.secure as usize + m.pages as usize) * FRAME_WORDS;
             let old = mem.get(last.wrapping_sub(1)).copied();
             let code = boot(m, key, mem, led);
-            if let (0, Some(word)) = (code, old) {
+            if let (DONE, Some(word)) = (code, old) {
                 mem[last - 1] = word;
             }
             code
@@ -89,8 +100,8 @@ fn wrong_boots() {
         "wipes frame 0",
         Flaw::Boot(|m, key, mem, led| {
             let code = boot(m, key, mem, led);
-            if code == 0 {
-                mem[..1024].fill(0);
+            if code == DONE {
+                mem[..FRAME_WORDS].fill(0);
             }
             code
         }),
@@ -99,7 +110,7 @@ fn wrong_boots() {
         "writes the ledger although it refuses",
         Flaw::Boot(|m, key, mem, led| {
             let code = boot(m, key, mem, led);
-            if code != 0 {
+            if code != DONE {
                 led.fill(0);
             }
             code
@@ -115,7 +126,7 @@ fn wrong_acceptances() {
         "overlooks the header's end",
         Flaw::Accepts(|m, mem, led| {
             let mut led = led.to_vec();
-            led.iter_mut().take(32).skip(17).for_each(|word| *word = 0);
+            led.iter_mut().take(HEADER_WORDS).skip(MAP_END).for_each(|word| *word = 0);
             accepts(m, mem, &led)
         }),
     );
@@ -123,9 +134,9 @@ fn wrong_acceptances() {
         "overlooks a last word of memory",
         Flaw::Accepts(|m, mem, led| {
             let mut mem = mem.to_vec();
-            for page in 0..m.pages.min(256) as usize {
-                if led.get(32 + 32 * page) != Some(&5) {
-                    mem.get_mut((m.secure as usize + page) * 1024 + 1023)
+            for page in 0..m.pages.min(MOST_PAGES) as usize {
+                if led.get(record_of(page).start + word::TYPE) != Some(&kind::DATA) {
+                    mem.get_mut((m.secure as usize + page + 1) * FRAME_WORDS - 1)
                         .into_iter()
                         .for_each(|w| *w = 0);
                 }
@@ -136,8 +147,10 @@ fn wrong_acceptances() {
     told_apart(
         "keeps the link rules of stopped spaces",
         Flaw::Accepts(|m, mem, led| {
-            let stopped = led.chunks(32).skip(1).any(|page| page[0] == 1 && page[3] == 2);
-            accepts(m, mem, led) && !stopped
+            accepts(m, mem, led)
+                && !pages(led).any(|page| {
+                    page[word::TYPE] == kind::SPACE && page[word::STATE] == state::STOPPED
+                })
         }),
     );
     told_apart(
@@ -151,12 +164,12 @@ fn wrong_acceptances() {
 
 #[test]
 fn wrong_batches() {
-    told_apart("refuses all", Flaw::Batch(|_, _, _, _, _| 18));
+    told_apart("refuses all", Flaw::Batch(|_, _, _, _, _| UNFIT));
     told_apart(
         "has a single reply",
         Flaw::Batch(|m, mem, led, calls, answers| {
             let code = batch(m, mem, led, calls, answers);
-            if code == 0 {
+            if code == DONE {
                 answers.fill(0);
             }
             code
@@ -180,22 +193,22 @@ fn wrong_batches() {
         "writes answers although it refuses",
         Flaw::Batch(|m, mem, led, calls, answers| {
             let code = batch(m, mem, led, calls, answers);
-            if code == 18 {
-                answers.fill(18);
+            if code == UNFIT {
+                answers.fill(UNFIT);
             }
             code
         }),
     );
     told_apart(
-        "takes 513 records",
+        "takes a record more than a batch has",
         Flaw::Batch(|m, mem, led, calls, answers| {
-            if calls.len() == 32 * 513 && answers.len() == calls.len() {
-                let (first, last) = answers.split_at_mut(32);
-                return batch(m, mem, led, &calls[..32], first).max(batch(
+            if calls.len() == RECORD_WORDS * (MOST_CALLS + 1) && answers.len() == calls.len() {
+                let (first, last) = answers.split_at_mut(RECORD_WORDS);
+                return batch(m, mem, led, &calls[..RECORD_WORDS], first).max(batch(
                     m,
                     mem,
                     led,
-                    &calls[32..],
+                    &calls[RECORD_WORDS..],
                     last,
                 ));
             }
@@ -214,7 +227,7 @@ fn spoiled(
     spoil: fn(&[u32], &mut [u32], &mut [u32]),
 ) -> u32 {
     let code = batch(m, memory, ledger, calls, answers);
-    if code == 0 && calls.len() == 32 {
+    if code == DONE && calls.len() == RECORD_WORDS {
         spoil(calls, answers, ledger);
     }
     code
@@ -232,46 +245,46 @@ macro_rules! spoils {
 #[test]
 fn wrong_calls() {
     spoils!("invents an owned count", |call, answer, ledger| {
-        if call[0] == 5 && answer[0] == 0 {
-            ledger[32 + 32 * call[1] as usize + 4] += 1;
+        if call[0] == number::ALLOC_SPARE && answer[0] == DONE {
+            ledger[record_of(call[1] as usize)][word::COUNT] += 1;
         }
     });
     spoils!("invents a block count", |call, answer, ledger| {
-        if call[0] == 3 && answer[0] == 0 {
-            ledger[32 + 32 * call[1] as usize + 5] += 64;
+        if call[0] == number::INIT_THREAD && answer[0] == DONE {
+            ledger[record_of(call[1] as usize)][word::BLOCKS] += 64;
         }
     });
     spoils!("invents a free count", |call, answer, _| {
-        if call[0] == 13 && answer[0] == 0 {
+        if call[0] == number::FREE_PAGES && answer[0] == DONE {
             answer[1] ^= 1;
         }
     });
     spoils!("leaves a resumed thread suspended", |call, answer, ledger| {
-        if call[0] == 10 && answer[0] == 0 {
-            ledger[32 + 32 * call[1] as usize + 3] = 1;
+        if call[0] == number::RESUME && answer[0] == DONE {
+            ledger[record_of(call[1] as usize)][word::SUSPENDED] = 1;
         }
     });
     spoils!("says 17 where 16 is meant", |_, answer, _| {
-        if answer[0] == 16 {
-            answer[0] = 17;
+        if answer[0] == Code::NotOwnSpare as u32 {
+            answer[0] = Code::NotOwnData as u32;
         }
     });
     spoils!("leaves a word in a refusal's record", |call, answer, _| {
-        if answer[0] == 8 {
-            answer[31] = call[1];
+        if answer[0] == Code::NoTable as u32 {
+            answer[RECORD_WORDS - 1] = call[1];
         }
     });
     spoils!("keeps the low flags", |call, answer, ledger| {
-        if call[0] == 39 && answer[0] == 32 && call[17] & 1 == 1 {
-            ledger.chunks_mut(32).skip(1).filter(|page| page[0] == 2 && page[3] == 1).for_each(
-                |page| {
-                    page[20] |= 1;
-                },
-            );
+        let interrupted = answer[0] == Code::Interrupted as u32;
+        if call[0] == number::INTERRUPT && interrupted && call[SAVED_WORDS] & 1 == 1 {
+            let mut pages = ledger[HEADER_WORDS..].chunks_mut(RECORD_WORDS);
+            let suspended =
+                pages.find(|page| page[word::TYPE] == kind::THREAD && page[word::SUSPENDED] == 1);
+            suspended.expect("one is")[word::FLAGS] |= 1;
         }
     });
     spoils!("verifies anything", |call, answer, _| {
-        if call[0] == 34 && answer[0] == 0 {
+        if call[0] == number::VERIFY && answer[0] == DONE {
             answer[1] = 1;
         }
     });

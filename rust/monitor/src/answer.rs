@@ -1,24 +1,26 @@
 use crate::call::Call;
+use crate::layout::{KEY_WORDS, REGISTERS, SAVED_WORDS};
 use crate::record::{part, record_of, Record};
 use crate::refusal::Refusal;
+use crate::words::DONE;
 use std::fmt;
 
 /// r0-r15 and the flags.
 #[derive(Clone, Copy, Debug, Default, PartialEq, Eq, Hash)]
 pub struct Registers {
     /// r0 to r15; a run starts at r15.
-    pub r: [u32; 16],
+    pub r: [u32; REGISTERS],
     /// The flags, in the top 4 bits.
     pub flags: u32,
 }
 
 impl Registers {
-    /// The registers of 17 words.
-    pub(crate) fn of(words: [u32; 17]) -> Registers {
-        Registers { r: std::array::from_fn(|place| words[place]), flags: words[16] }
+    /// The registers of these words, the flags last.
+    pub(crate) fn of(words: [u32; SAVED_WORDS]) -> Registers {
+        Registers { r: std::array::from_fn(|place| words[place]), flags: words[REGISTERS] }
     }
 
-    pub(crate) fn words(&self) -> [u32; 17] {
+    pub(crate) fn words(&self) -> [u32; SAVED_WORDS] {
         std::array::from_fn(|place| *self.r.get(place).unwrap_or(&self.flags))
     }
 }
@@ -26,9 +28,10 @@ impl Registers {
 /// The answer of a call.
 ///
 /// ```
+/// use monitor::layout::RECORD_WORDS;
 /// use monitor::{Answer, Call, Refusal};
 ///
-/// let mut record = [0; 32];
+/// let mut record = [0; RECORD_WORDS];
 /// record[0] = 22;
 /// let call = Call::Remove { page: 3 };
 /// assert_eq!(Answer::decode(&call, &record), Some(Answer::Refused(Refusal::AlreadyFree)));
@@ -54,7 +57,7 @@ pub enum Answer {
     /// GetRandom.
     Random(u32),
     /// Attest: the MAC.
-    Attested([u32; 8]),
+    Attested([u32; KEY_WORDS]),
     /// Verify.
     Verified(bool),
     /// Exit: the run has ended with this value.
@@ -75,7 +78,7 @@ impl Answer {
     /// an answer to such a call.
     pub fn decode(call: &Call, record: &Record) -> Option<Answer> {
         let answer = match record[0] {
-            0 => Answer::done(call, record)?,
+            DONE => Answer::done(call, record)?,
             Answer::INTERRUPTED => Answer::Interrupted,
             Answer::FAULTED => Answer::Faulted,
             code => Answer::Refused(Refusal::from_code(code)?),
@@ -107,7 +110,7 @@ impl Answer {
             Answer::Refused(refusal) => refusal.code(),
             Answer::Interrupted => Answer::INTERRUPTED,
             Answer::Faulted => Answer::FAULTED,
-            _ => 0,
+            _ => DONE,
         }
     }
 
@@ -143,7 +146,7 @@ impl fmt::Display for Answer {
             Answer::Pages(pages) => write!(out, "{pages} secure pages"),
             Answer::Free { count: 0, .. } => out.write_str("no page is free"),
             Answer::Free { count, lowest } => write!(out, "{count} free, the lowest is {lowest}"),
-            Answer::Runs(registers) => write!(out, "runs from {}", registers.r[15]),
+            Answer::Runs(registers) => write!(out, "runs from {}", registers.r[REGISTERS - 1]),
             Answer::Random(word) => write!(out, "random word {word}"),
             Answer::Attested(_) => out.write_str("attested"),
             Answer::Verified(true) => out.write_str("the MAC is right"),

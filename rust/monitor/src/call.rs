@@ -1,4 +1,5 @@
 use crate::answer::Registers;
+use crate::layout::{KEY_WORDS, RECORD_WORDS};
 use crate::mapping::Mapping;
 use crate::record::{zero_from, Record};
 use std::fmt;
@@ -24,7 +25,8 @@ pub enum Call {
     InitAddrSpace { space: u32, first: u32 },
     /// 3: a thread of a building space on a free page; it is measured.
     InitThread { space: u32, page: u32, entry: u32 },
-    /// 4, InitL2PTable: a table of a building space at an index below 256.
+    /// 4, InitL2PTable: a table of a building space at an index below
+    /// [`crate::layout::MOST_TABLES`].
     InitTable { space: u32, page: u32, index: u32 },
     /// 5: a spare page for a space that is not stopped.
     AllocSpare { space: u32, page: u32 },
@@ -47,9 +49,9 @@ pub enum Call {
     /// 32: a random word, which the hardware gives.
     GetRandom { word: u32 },
     /// 33: the MAC by the box's key over the measurement and these words.
-    Attest { data: [u32; 8] },
+    Attest { data: [u32; KEY_WORDS] },
     /// 34: whether that is the MAC of these words for this measurement.
-    Verify { data: [u32; 8], measurement: [u32; 8], mac: [u32; 8] },
+    Verify { data: [u32; KEY_WORDS], measurement: [u32; KEY_WORDS], mac: [u32; KEY_WORDS] },
     /// 35, InitL2PTable: a spare page of one's own becomes a table.
     SpareTable { page: u32, index: u32 },
     /// 36: a spare page of one's own becomes a data page of zeros.
@@ -142,7 +144,7 @@ impl Call {
     }
 
     fn written(&self) -> Writer {
-        let mut words = Writer { record: [0; 32], at: 0 };
+        let mut words = Writer { record: [0; RECORD_WORDS], at: 0 };
         self.write(&mut words);
         words
     }

@@ -1,10 +1,15 @@
+use crate::layout::{
+    record_of, HEADER_WORDS, KEY_START, KEY_WORDS, MAP_START, MAP_WORDS, RECORD_WORDS, RUNNING,
+};
 use crate::machine::Machine;
 use crate::page::Page;
 use crate::record::Record;
-use crate::words::RECORD;
 
-/// The ledger: a header of 32 words and a record of 32 words a page. `W`
-/// holds the words, as in [`crate::Memory`].
+/// The key for attestations.
+pub type Key = [u32; KEY_WORDS];
+
+/// The ledger: a header and a record a page. `W` holds the words, as in
+/// [`crate::Memory`].
 ///
 /// ```
 /// use monitor::{Call, Machine, Monitor, Page};
@@ -24,12 +29,6 @@ use crate::words::RECORD;
 /// ```
 #[derive(Clone, Debug, PartialEq, Eq)]
 pub struct Ledger<W = Vec<u32>>(W);
-
-/// Where the key and the free map start in the header.
-const KEY: usize = 1;
-const FREE_MAP: usize = 9;
-/// The words of the free map.
-const MAP_WORDS: usize = 8;
 
 impl Ledger {
     /// Zeros for this machine: no fresh ledger yet, which boot writes.
@@ -69,29 +68,28 @@ impl<W: AsRef<[u32]>> Ledger<W> {
 
     /// The running thread's page.
     pub fn running(&self) -> Option<u32> {
-        self.header(0).checked_sub(1)
+        self.header(RUNNING).checked_sub(1)
     }
 
     /// The key for attestations.
-    pub fn key(&self) -> [u32; 8] {
-        std::array::from_fn(|place| self.header(KEY + place))
+    pub fn key(&self) -> Key {
+        std::array::from_fn(|place| self.header(KEY_START + place))
     }
 
     /// Whether the free map says that this page is free.
     pub fn is_free(&self, page: u32) -> bool {
-        let word = page as usize / 32;
-        word < MAP_WORDS && self.header(FREE_MAP + word) >> (page % 32) & 1 == 1
+        let (word, bit) = ((page / u32::BITS) as usize, page % u32::BITS);
+        word < MAP_WORDS && self.header(MAP_START + word) >> bit & 1 == 1
     }
 
     /// How many pages have a record.
     pub fn page_count(&self) -> u32 {
-        (self.words().len() / RECORD).saturating_sub(1) as u32
+        (self.words().len().saturating_sub(HEADER_WORDS) / RECORD_WORDS) as u32
     }
 
     /// The record of a page.
     pub fn record(&self, page: u32) -> Option<Record> {
-        let start = RECORD * (1 + page as usize);
-        self.words().get(start..start + RECORD)?.try_into().ok()
+        self.words().get(record_of(page))?.try_into().ok()
     }
 
     /// A page by its type; none for a page or a record that is none.

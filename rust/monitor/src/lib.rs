@@ -2,7 +2,7 @@
 //!
 //! A box lends its memory and a ledger of its secure pages. The monitor has
 //! three services over them: *boot* writes a fresh ledger, *acceptance* says
-//! whether the words are in order, and a *batch* obeys up to 512 calls. The
+//! whether the words are in order, and a *batch* obeys a list of calls. The
 //! code behind them is proved; this crate gives its words names and types.
 //!
 //! ```
@@ -43,10 +43,12 @@
 //!   or borrowed, and hands them to the services.
 //! - [`Call`] and [`Answer`] are the table of calls; [`Refusal`] the reasons.
 //! - [`Memory`], [`Ledger`] and [`Page`] read the lent words.
-//! - [`words`] is the three services as they are exported, words and numbers.
+//! - [`words`] is the three services as they are exported, words and numbers;
+//!   [`layout`] has the sizes and places.
 
 mod answer;
 mod call;
+pub mod layout;
 mod ledger;
 mod machine;
 mod mapping;
@@ -59,7 +61,7 @@ pub mod words;
 
 pub use answer::{Answer, Registers};
 pub use call::Call;
-pub use ledger::Ledger;
+pub use ledger::{Key, Ledger};
 pub use machine::Machine;
 pub use mapping::Mapping;
 pub use memory::Memory;

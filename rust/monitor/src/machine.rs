@@ -1,4 +1,4 @@
-use crate::words::{FRAME, RECORD};
+use crate::layout::{FRAME_WORDS, HEADER_WORDS, MOST_FRAMES, MOST_PAGES, RECORD_WORDS};
 
 /// The box's numbers F, s, n, m and k: which frames there are, and whose.
 ///
@@ -14,11 +14,12 @@ use crate::words::{FRAME, RECORD};
 /// ```
 #[derive(Clone, Copy, Debug, PartialEq, Eq, Hash)]
 pub struct Machine {
-    /// F: how many frames there are, 1 to 4,096.
+    /// F: how many frames there are, 1 to [`MOST_FRAMES`].
     pub frames: u32,
     /// s: the first secure frame.
     pub secure: u32,
-    /// n: how many secure frames there are, 1 to 256; page p is frame s+p.
+    /// n: how many secure frames there are, 1 to [`MOST_PAGES`]; page p is
+    /// frame s+p.
     pub pages: u32,
     /// m: the monitor's first frame.
     pub monitor: u32,
@@ -45,8 +46,8 @@ impl Machine {
     pub fn fits(&self) -> bool {
         let (secure, monitor) = (end(self.secure, self.pages), end(self.monitor, self.monitors));
         let below = |end: u64| end <= u64::from(self.frames);
-        (1..=4096).contains(&self.frames)
-            && (1..=256).contains(&self.pages)
+        (1..=MOST_FRAMES).contains(&self.frames)
+            && (1..=MOST_PAGES).contains(&self.pages)
             && self.monitors >= 1
             && below(secure)
             && below(monitor)
@@ -65,13 +66,14 @@ impl Machine {
         among(self.secure, self.pages, frame).then(|| frame - self.secure)
     }
 
-    /// The words of memory that this machine lends: 1,024F.
+    /// The words of memory that this machine lends.
     pub fn memory_words(&self) -> usize {
-        self.frames as usize * FRAME
+        self.frames as usize * FRAME_WORDS
     }
 
-    /// The words of ledger that this machine lends: 32+32n.
+    /// The words of ledger that this machine lends: the header, and a record a
+    /// page.
     pub fn ledger_words(&self) -> usize {
-        RECORD + self.pages as usize * RECORD
+        HEADER_WORDS + self.pages as usize * RECORD_WORDS
     }
 }

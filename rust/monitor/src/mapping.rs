@@ -1,8 +1,17 @@
+use crate::layout::{FRAME_WORDS, MOST_TABLES};
 use std::fmt;
 
 const READ: u32 = 1;
 const WRITE: u32 = 2;
 const EXECUTE: u32 = 4;
+const RIGHTS: u32 = READ | WRITE | EXECUTE;
+/// Where an address has its index, and its slot.
+const INDEX_SHIFT: u32 = 22;
+const PAGE_SHIFT: u32 = 12;
+/// Slots in a table.
+const SLOTS: u32 = FRAME_WORDS as u32;
+/// The bits of a page address.
+const PAGE_ADDRESS: u32 = (MOST_TABLES << INDEX_SHIFT) - (1 << PAGE_SHIFT);
 
 /// A mapping word: a page address in bits 12-29 and rights in bits 0-2.
 ///
@@ -22,10 +31,10 @@ const EXECUTE: u32 = 4;
 pub struct Mapping(u32);
 
 impl Mapping {
-    /// The page at a first-level index (0-255) and a slot of its table
-    /// (0-1,023), to be read only. Higher bits of either are left out.
+    /// The page at a first-level index and a slot of its table, to be read
+    /// only. Higher bits of either are left out.
     pub const fn new(index: u32, slot: u32) -> Mapping {
-        Mapping((index & 0xff) << 22 | (slot & 0x3ff) << 12 | READ)
+        Mapping(((index % MOST_TABLES) << INDEX_SHIFT) | ((slot % SLOTS) << PAGE_SHIFT) | READ)
     }
 
     /// Any word as a mapping word.
@@ -50,17 +59,17 @@ impl Mapping {
 
     /// The first-level index, bits 22-29.
     pub const fn index(self) -> u32 {
-        self.0 >> 22 & 0xff
+        (self.0 >> INDEX_SHIFT) % MOST_TABLES
     }
 
     /// The slot of the second-level table, bits 12-21.
     pub const fn slot(self) -> u32 {
-        self.0 >> 12 & 0x3ff
+        (self.0 >> PAGE_SHIFT) % SLOTS
     }
 
     /// The page address, rights cleared.
     pub const fn address(self) -> u32 {
-        self.0 & 0x3fff_f000
+        self.0 & PAGE_ADDRESS
     }
 
     /// Whether the write right is in it.
@@ -75,7 +84,7 @@ impl Mapping {
 
     /// Whether read is set, and no bit but those of address and rights.
     pub const fn is_well_formed(self) -> bool {
-        self.0 & READ != 0 && self.0 & !0x3fff_f007 == 0
+        self.0 & READ != 0 && self.0 & !(PAGE_ADDRESS | RIGHTS) == 0
     }
 }
 

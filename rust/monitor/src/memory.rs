@@ -1,10 +1,11 @@
+use crate::layout::FRAME_WORDS;
 use crate::machine::Machine;
-use crate::words::FRAME;
 
-/// The memory: 1,024 words a frame. `W` holds the words: a `Vec<u32>` owns
+/// The memory: [`FRAME_WORDS`] a frame. `W` holds the words: a `Vec<u32>` owns
 /// them, a `&mut [u32]` borrows them, a `&[u32]` only reads them.
 ///
 /// ```
+/// use monitor::layout::FRAME_WORDS;
 /// use monitor::{Machine, Memory};
 ///
 /// let mut memory = Memory::zeros(Machine::BOX_A);
@@ -12,8 +13,8 @@ use crate::words::FRAME;
 /// assert_eq!(memory.frame(5).unwrap()[..4], [0, 0, 0, 9]);
 /// assert_eq!(memory.frame(16), None);
 ///
-/// let mut mine = [0; 2048];
-/// assert_eq!(Memory::over(&mut mine[..]).frame_mut(1).unwrap().len(), 1024);
+/// let mut mine = [0; 2 * FRAME_WORDS];
+/// assert_eq!(Memory::over(&mut mine[..]).frame_mut(1).unwrap().len(), FRAME_WORDS);
 /// ```
 #[derive(Clone, Debug, PartialEq, Eq)]
 pub struct Memory<W = Vec<u32>>(W);
@@ -26,8 +27,8 @@ impl Memory {
 }
 
 fn range_of(frame: u32) -> std::ops::Range<usize> {
-    let start = frame as usize * FRAME;
-    start..start + FRAME
+    let start = frame as usize * FRAME_WORDS;
+    start..start + FRAME_WORDS
 }
 
 impl<W> Memory<W> {

@@ -1,10 +1,11 @@
 use crate::answer::Answer;
 use crate::call::Call;
-use crate::ledger::Ledger;
+use crate::layout::RECORD_WORDS;
+use crate::ledger::{Key, Ledger};
 use crate::machine::Machine;
 use crate::memory::Memory;
 use crate::record::Record;
-use crate::words::{self, DONE, RECORD};
+use crate::words::{self, DONE};
 use std::fmt;
 
 /// 18: machine numbers or lengths do not fit, or acceptance says no. Nothing
@@ -23,6 +24,7 @@ impl std::error::Error for Unfit {}
 /// The monitor over a machine's lent words, which it owns or borrows.
 ///
 /// ```
+/// use monitor::layout::HEADER_WORDS;
 /// use monitor::{Call, Ledger, Machine, Memory, Monitor, Unfit};
 ///
 /// // Over words that are somebody else's:
@@ -35,7 +37,7 @@ impl std::error::Error for Unfit {}
 /// // The words may be taken up again, if they are accepted:
 /// let (mem, led) = (Memory::over(memory), Ledger::over(ledger));
 /// let mut again = Monitor::resume(machine, mem, led)?;
-/// again.ledger_mut().words_mut()[31] = 1;
+/// again.ledger_mut().words_mut()[HEADER_WORDS - 1] = 1;
 /// assert!(!again.accepted());
 /// assert_eq!(again.call(Call::FreePages), Err(Unfit));
 /// # Ok::<(), Unfit>(())
@@ -49,7 +51,7 @@ pub struct Monitor<M = Vec<u32>, L = Vec<u32>> {
 
 impl Monitor {
     /// A machine of its own words: memory zero, all pages free, this key.
-    pub fn boot(machine: Machine, key: &[u32; 8]) -> Result<Monitor, Unfit> {
+    pub fn boot(machine: Machine, key: &Key) -> Result<Monitor, Unfit> {
         // No memory is set aside for numbers that do not fit.
         if !machine.fits() {
             return Err(Unfit);
@@ -65,7 +67,7 @@ impl<M: AsMut<[u32]>, L: AsMut<[u32]>> Monitor<M, L> {
         machine: Machine,
         mut memory: Memory<M>,
         mut ledger: Ledger<L>,
-        key: &[u32; 8],
+        key: &Key,
     ) -> Result<Monitor<M, L>, Unfit> {
         match words::boot(machine, key, memory.words_mut(), ledger.words_mut()) {
             DONE => Ok(Monitor { machine, memory, ledger }),
@@ -75,21 +77,22 @@ impl<M: AsMut<[u32]>, L: AsMut<[u32]>> Monitor<M, L> {
 
     /// One call.
     pub fn call(&mut self, call: Call) -> Result<Answer, Unfit> {
-        let mut answer = [0; RECORD];
+        let mut answer = [0; RECORD_WORDS];
         self.batch_words(&call.encode(), &mut answer)?;
         Ok(answer_to(&call, &answer))
     }
 
-    /// Up to 512 calls, in order. The words are judged once, before them.
+    /// Up to [`crate::layout::MOST_CALLS`] calls, in order. The words are judged once, before them.
     pub fn batch(&mut self, calls: &[Call]) -> Result<Vec<Answer>, Unfit> {
         let records: Vec<u32> = calls.iter().flat_map(Call::encode).collect();
         let mut answers = vec![0; records.len()];
         self.batch_words(&records, &mut answers)?;
-        let answers = answers.chunks_exact(RECORD).map(|record| record.try_into().expect("32"));
+        let answers =
+            answers.chunks_exact(RECORD_WORDS).map(|record| record.try_into().expect("a record"));
         Ok(calls.iter().zip(answers).map(|(call, record)| answer_to(call, record)).collect())
     }
 
-    /// A batch in words: records of 32 and as many words for the answers.
+    /// A batch in words: whole records and as many words for the answers.
     pub fn batch_words(&mut self, calls: &[u32], answers: &mut [u32]) -> Result<(), Unfit> {
         let (memory, ledger) = (self.memory.words_mut(), self.ledger.words_mut());
         match words::batch(self.machine, memory, ledger, calls, answers) {

@@ -1,4 +1,5 @@
 use crate::answer::Registers;
+use crate::layout::{kind, word, KEY_WORDS, SAVED_WORDS};
 use crate::mapping::Mapping;
 use crate::record::{part, record_of, Record};
 
@@ -27,7 +28,7 @@ pub struct Space {
     /// How many blocks were measured.
     pub blocks: u32,
     /// The running hash; the measurement once it is final.
-    pub hash: [u32; 8],
+    pub hash: [u32; KEY_WORDS],
 }
 
 /// The record of a thread.
@@ -80,19 +81,19 @@ impl State {
 impl Space {
     fn decode(record: &Record) -> Option<Space> {
         Some(Space {
-            page: record[1],
-            first: record[2],
-            state: State::decode(record[3])?,
-            owned: record[4],
-            blocks: record[5],
-            hash: part(record, 6),
+            page: record[word::OWNER],
+            first: record[word::FIRST],
+            state: State::decode(record[word::STATE])?,
+            owned: record[word::COUNT],
+            blocks: record[word::BLOCKS],
+            hash: part(record, word::HASH),
         })
     }
 
     fn encode(&self) -> Record {
         let Space { page, first, state, owned, blocks, hash } = self;
-        let mut record = record_of(&[1, *page, *first, *state as u32, *owned, *blocks]);
-        record[6..14].copy_from_slice(hash);
+        let mut record = record_of(&[kind::SPACE, *page, *first, *state as u32, *owned, *blocks]);
+        record[word::HASH..][..KEY_WORDS].copy_from_slice(hash);
         record
     }
 }
@@ -100,16 +101,17 @@ impl Space {
 impl Thread {
     fn decode(record: &Record) -> Thread {
         Thread {
-            owner: record[1],
-            entry: record[2],
-            suspended: record[3] != 0,
-            registers: Registers::of(part(record, 4)),
+            owner: record[word::OWNER],
+            entry: record[word::ENTRY],
+            suspended: record[word::SUSPENDED] != 0,
+            registers: Registers::of(part(record, word::SAVED)),
         }
     }
 
     fn encode(&self) -> Record {
-        let mut record = record_of(&[2, self.owner, self.entry, u32::from(self.suspended)]);
-        record[4..21].copy_from_slice(&self.registers.words());
+        let mut record =
+            record_of(&[kind::THREAD, self.owner, self.entry, u32::from(self.suspended)]);
+        record[word::SAVED..][..SAVED_WORDS].copy_from_slice(&self.registers.words());
         record
     }
 }
@@ -118,15 +120,15 @@ impl Page {
     /// The page of a record; none where the type or a state is no number of
     /// the table, or an unnamed word is not zero. Acceptance asks for more.
     pub fn decode(record: &Record) -> Option<Page> {
-        let owner = record[1];
-        let page = match record[0] {
-            0 => Page::Free,
-            1 => Page::Space(Space::decode(record)?),
-            2 => Page::Thread(Thread::decode(record)),
-            3 => Page::FirstTable { owner },
-            4 => Page::Table { owner, index: record[2] },
-            5 => Page::Data { owner, map: Mapping::from_word(record[2]) },
-            6 => Page::Spare { owner },
+        let owner = record[word::OWNER];
+        let page = match record[word::TYPE] {
+            kind::FREE => Page::Free,
+            kind::SPACE => Page::Space(Space::decode(record)?),
+            kind::THREAD => Page::Thread(Thread::decode(record)),
+            kind::FIRST_TABLE => Page::FirstTable { owner },
+            kind::TABLE => Page::Table { owner, index: record[word::INDEX] },
+            kind::DATA => Page::Data { owner, map: Mapping::from_word(record[word::MAPPING]) },
+            kind::SPARE => Page::Spare { owner },
             _ => return None,
         };
         (page.encode() == *record).then_some(page)
@@ -138,10 +140,10 @@ impl Page {
             Page::Free => record_of(&[]),
             Page::Space(space) => space.encode(),
             Page::Thread(thread) => thread.encode(),
-            Page::FirstTable { owner } => record_of(&[3, *owner]),
-            Page::Table { owner, index } => record_of(&[4, *owner, *index]),
-            Page::Data { owner, map } => record_of(&[5, *owner, map.word()]),
-            Page::Spare { owner } => record_of(&[6, *owner]),
+            Page::FirstTable { owner } => record_of(&[kind::FIRST_TABLE, *owner]),
+            Page::Table { owner, index } => record_of(&[kind::TABLE, *owner, *index]),
+            Page::Data { owner, map } => record_of(&[kind::DATA, *owner, map.word()]),
+            Page::Spare { owner } => record_of(&[kind::SPARE, *owner]),
         }
     }
 

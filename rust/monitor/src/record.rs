@@ -1,11 +1,11 @@
-use crate::words::RECORD;
+use crate::layout::RECORD_WORDS;
 
 /// A record: of a call, of an answer, or of a page in the ledger.
-pub type Record = [u32; RECORD];
+pub type Record = [u32; RECORD_WORDS];
 
 /// A record of these words, zeros after them.
 pub(crate) fn record_of(words: &[u32]) -> Record {
-    let mut record = [0; RECORD];
+    let mut record = [0; RECORD_WORDS];
     record[..words.len()].copy_from_slice(words);
     record
 }

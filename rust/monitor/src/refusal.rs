@@ -48,7 +48,7 @@ pub enum Refusal {
     NotOwnData = 17,
     /// 19: an unknown number, or a word that is not zero after the arguments.
     BadRecord = 19,
-    /// 21: the index is 256 or more.
+    /// 21: the index is [`crate::layout::MOST_TABLES`] or more.
     NoSuchIndex = 21,
     /// 22: the page is free already.
     AlreadyFree = 22,

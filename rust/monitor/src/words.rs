@@ -2,18 +2,19 @@
 //! is asked of the words: what does not fit gets 18, or a no, and stays put.
 //!
 //! ```
+//! use monitor::layout::{KEY_WORDS, RECORD_WORDS};
 //! use monitor::{words, Machine};
 //!
 //! let machine = Machine::BOX_A;
 //! let mut memory = vec![0; machine.memory_words()];
 //! let mut ledger = vec![0; machine.ledger_words()];
 //! assert_eq!(words::boot(machine, &[0; 7], &mut memory, &mut ledger), words::UNFIT);
-//! assert_eq!(words::boot(machine, &[0; 8], &mut memory, &mut ledger), words::DONE);
+//! assert_eq!(words::boot(machine, &[0; KEY_WORDS], &mut memory, &mut ledger), words::DONE);
 //! assert!(words::accepts(machine, &memory, &ledger));
 //!
-//! let mut calls = [0; 32];
+//! let mut calls = [0; RECORD_WORDS];
 //! calls[0] = 1; // GetPhysPages
-//! let mut answers = [0; 32];
+//! let mut answers = [0; RECORD_WORDS];
 //! assert_eq!(words::batch(machine, &mut memory, &mut ledger, &calls, &mut answers), words::DONE);
 //! assert_eq!(answers[..2], [0, 8]);
 //! ```
@@ -24,12 +25,6 @@ use crate::machine::Machine;
 pub const DONE: u32 = 0;
 /// The answer where numbers or lengths do not fit, or acceptance says no.
 pub const UNFIT: u32 = 18;
-/// Words in a frame, a page or a table.
-pub const FRAME: usize = 1024;
-/// Words in the ledger's header, in a page's record, in a call or an answer.
-pub const RECORD: usize = 32;
-/// The most calls in a batch.
-pub const MOST_CALLS: usize = 512;
 
 /// As in `include/monitor.h`. A slice is a pointer and a count of words; the
 /// library reads and writes within the slices, for as long as a call takes.
@@ -79,7 +74,7 @@ mod c {
     }
 }
 
-/// Boot: a fresh ledger with all pages free and this key of 8 words, secure
+/// Boot: a fresh ledger with all pages free and this key, secure
 /// frames zero, other frames unchanged. [`DONE`] or [`UNFIT`].
 pub fn boot(m: Machine, key: &[u32], memory: &mut [u32], ledger: &mut [u32]) -> u32 {
     // SAFETY: pointers and lengths are those of live slices; what is written
@@ -119,8 +114,8 @@ pub fn accepts(m: Machine, memory: &[u32], ledger: &[u32]) -> bool {
     }
 }
 
-/// A batch of up to 512 call records of 32 words; `answers` is as long as
-/// `calls`. [`DONE`], or [`UNFIT`] and every word stays as it was.
+/// A batch of up to [`crate::layout::MOST_CALLS`] call records; `answers` is as
+/// long as `calls`. [`DONE`], or [`UNFIT`] and every word stays as it was.
 pub fn batch(
     m: Machine,
     memory: &mut [u32],

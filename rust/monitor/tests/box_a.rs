@@ -1,9 +1,10 @@
 //! The shift on box A in typed calls, row by row.
 
+use monitor::layout::{MAP_START, MOST_CALLS, MOST_FRAMES, RECORD_WORDS};
 use monitor::Refusal::{self, *};
-use monitor::{Answer, Call, Machine, Mapping, Monitor, Page, Registers, Unfit};
+use monitor::{Answer, Call, Key, Machine, Mapping, Monitor, Page, Registers, Unfit};
 
-const KEY: [u32; 8] = [11, 12, 13, 14, 15, 16, 17, 18];
+const KEY: Key = [11, 12, 13, 14, 15, 16, 17, 18];
 
 struct Shift(Monitor);
 
@@ -62,7 +63,7 @@ fn the_shift() {
 
     a.done(Call::InitThread { space: 0, page: 4, entry: 4096 });
     let Some(Page::Space(space)) = a.0.ledger().page(0) else { panic!("page 0 is a space") };
-    assert_eq!((space.blocks, space.owned, a.0.ledger().words()[9]), (66, 4, 224));
+    assert_eq!((space.blocks, space.owned, a.0.ledger().words()[MAP_START]), (66, 4, 224));
     assert_eq!(a.answer(Call::FreePages), Answer::Free { count: 3, lowest: 5 });
     let enter = Call::Enter { thread: 4, x: 7, y: 8, z: 9 };
     a.refused(enter, OwnerNotFinal);
@@ -116,15 +117,16 @@ fn one_batch() {
 
 #[test]
 fn what_does_not_fit() {
-    let machine = Machine { frames: 4097, ..Machine::BOX_A };
+    let machine = Machine { frames: MOST_FRAMES + 1, ..Machine::BOX_A };
     assert_eq!(Monitor::boot(machine, &KEY), Err(Unfit));
     let mut bench = Shift::fresh().0;
     let before = bench.clone();
-    assert_eq!(bench.batch(&[Call::FreePages; 513]), Err(Unfit));
-    assert_eq!(bench.batch_words(&[0; 31], &mut [0; 31]), Err(Unfit));
-    assert_eq!(bench.batch_words(&[0; 32], &mut [0; 64]), Err(Unfit));
+    assert_eq!(bench.batch(&[Call::FreePages; MOST_CALLS + 1]), Err(Unfit));
+    assert_eq!(bench.batch_words(&[0; RECORD_WORDS - 1], &mut [0; RECORD_WORDS - 1]), Err(Unfit));
+    assert_eq!(bench.batch_words(&[0; RECORD_WORDS], &mut [0; 2 * RECORD_WORDS]), Err(Unfit));
     assert!(bench == before);
-    assert_eq!(bench.batch(&[Call::FreePages; 512]).map(|answers| answers.len()), Ok(512));
+    let most = bench.batch(&[Call::FreePages; MOST_CALLS]);
+    assert_eq!(most.map(|answers| answers.len()), Ok(MOST_CALLS));
 }
 
 #[test]

@@ -1,6 +1,6 @@
 //! The C header has the same names and numbers.
 
-use monitor::{words, Answer, Call, Refusal};
+use monitor::{layout, words, Answer, Call, Refusal};
 
 const HEADER: &str = include_str!("../../../include/monitor.h");
 
@@ -34,7 +34,7 @@ fn agrees(shown: &dyn std::fmt::Debug, number: u32) {
 #[test]
 fn calls() {
     for number in Call::NUMBERS {
-        let mut record = [0; 32];
+        let mut record = [0; layout::RECORD_WORDS];
         record[0] = *number;
         agrees(&Call::decode(&record).expect("a call"), *number);
     }
@@ -54,11 +54,13 @@ fn codes() {
 #[test]
 fn lengths() {
     for (name, number) in [
-        ("FRAME_WORDS", words::FRAME),
-        ("HEADER_WORDS", words::RECORD),
-        ("RECORD_WORDS", words::RECORD),
-        ("KEY_WORDS", 8),
-        ("MOST_CALLS", words::MOST_CALLS),
+        ("MOST_FRAMES", layout::MOST_FRAMES as usize),
+        ("MOST_PAGES", layout::MOST_PAGES as usize),
+        ("FRAME_WORDS", layout::FRAME_WORDS),
+        ("HEADER_WORDS", layout::HEADER_WORDS),
+        ("RECORD_WORDS", layout::RECORD_WORDS),
+        ("KEY_WORDS", layout::KEY_WORDS),
+        ("MOST_CALLS", layout::MOST_CALLS),
     ] {
         assert!(defines(name, number), "{name}");
     }
@@ -67,6 +69,7 @@ fn lengths() {
 /// As many names as are tried above, so that none is there in vain.
 #[test]
 fn no_more_names() {
-    let names = HEADER.lines().filter(|line| line.trim_start().starts_with("MONITOR_")).count();
-    assert_eq!(names, Call::NUMBERS.len() + Refusal::ALL.len() + 4 + 5);
+    let lines = HEADER.lines().filter(|line| line.trim_start().starts_with("MONITOR_"));
+    let names = lines.filter(|line| line.contains(" = ")).count();
+    assert_eq!(names, Call::NUMBERS.len() + Refusal::ALL.len() + 4 + 7);
 }

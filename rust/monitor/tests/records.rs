@@ -1,5 +1,6 @@
 //! Calls, answers and pages to words and back, both ways round.
 
+use monitor::layout::{MOST_FRAMES, MOST_PAGES, RECORD_WORDS};
 use monitor::{words, Answer, Call, Machine, Mapping, Page, Record, Refusal, Registers};
 use second::calls::{by_number, CALLS};
 use second::random::{next_call, Rng, View};
@@ -14,7 +15,8 @@ fn record(rng: &mut Rng, words: usize) -> Record {
 fn any_call(rng: &mut Rng) -> Record {
     let row = &CALLS[rng.below(CALLS.len() as u32) as usize];
     let (number, arguments) = (row.number, row.arguments);
-    let extra = if rng.once_in(4) { rng.below(31 - arguments as u32) as usize } else { 0 };
+    let extra =
+        if rng.once_in(4) { rng.below((RECORD_WORDS - 1 - arguments) as u32) as usize } else { 0 };
     let mut words = record(rng, 1 + arguments + extra);
     words[0] = if rng.once_in(8) { rng.word() >> rng.below(32) } else { number };
     words
@@ -24,7 +26,7 @@ fn any_call(rng: &mut Rng) -> Record {
 fn numbers_and_names_are_those_of_the_table() {
     assert_eq!(Call::NUMBERS, CALLS.map(|call| call.number));
     for row in &CALLS {
-        let mut words = [0; 32];
+        let mut words = [0; RECORD_WORDS];
         words[0] = row.number;
         let call = Call::decode(&words).expect(row.name);
         assert_eq!((call.number(), call.name()), (row.number, row.name));
@@ -111,7 +113,7 @@ fn strange_answers_are_none() {
         (verify, vec![0, 2]),
         (Call::Stop { space: 0 }, vec![0, 1]),
     ] {
-        let mut record = [0; 32];
+        let mut record = [0; RECORD_WORDS];
         record[..words.len()].copy_from_slice(&words);
         assert_eq!(Answer::decode(&call, &record), None, "{call} {words:?}");
     }
@@ -163,9 +165,9 @@ fn fits(machine: Machine) -> bool {
 #[test]
 fn machines_fit_near_the_limits() {
     let near = [0, 1, 2, 3, u32::MAX - 1, u32::MAX];
-    for frames in [0, 1, 2, 3, 4, 4096, 4097, u32::MAX] {
+    for frames in [0, 1, 2, 3, 4, MOST_FRAMES, MOST_FRAMES + 1, u32::MAX] {
         for secure in near {
-            for pages in near.into_iter().chain([256, 257]) {
+            for pages in near.into_iter().chain([MOST_PAGES, MOST_PAGES + 1]) {
                 for monitor in near {
                     for monitors in near {
                         let machine = Machine { frames, secure, pages, monitor, monitors };
@@ -186,7 +188,7 @@ fn a_shift_in_types() {
     let (mut memory, mut ledger) = second::random::fresh(&mut rng, machine);
     for _ in 0..3_000 {
         let call = next_call(&mut rng, View { machine, memory: &memory, ledger: &ledger });
-        let mut answer = [0; 32];
+        let mut answer = [0; RECORD_WORDS];
         assert_eq!(words::batch(SHIFT, &mut memory, &mut ledger, &call, &mut answer), words::DONE);
         match Call::decode(&call) {
             Some(typed) => {

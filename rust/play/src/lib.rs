@@ -7,19 +7,19 @@ pub mod plan;
 pub mod run;
 pub mod shift;
 
-use monitor::words::{MOST_CALLS, RECORD};
-use monitor::{Answer, Call, Ledger, Machine, Memory, Monitor, Record, Refusal, Unfit};
+use monitor::layout::{MOST_CALLS, RECORD_WORDS};
+use monitor::{Answer, Call, Key, Ledger, Machine, Memory, Monitor, Record, Refusal, Unfit};
 use plan::Item;
 
 /// What is wrong with what was asked, in one line.
 pub type Complaint = String;
 
 /// The key where none is given.
-pub const KEY: [u32; 8] = [1, 2, 3, 4, 5, 6, 7, 8];
+pub const KEY: Key = [1, 2, 3, 4, 5, 6, 7, 8];
 
 /// A fresh box. Before boot each word of memory holds its own place, so that
 /// copied pages can be told apart; boot zeroes the secure frames.
-pub fn fresh(machine: Machine, key: &[u32; 8]) -> Result<Monitor, Unfit> {
+pub fn fresh(machine: Machine, key: &Key) -> Result<Monitor, Unfit> {
     let memory = if machine.fits() { machine.memory_words() } else { 0 };
     let memory = Memory::over((0..memory as u32).collect());
     Monitor::boot_over(machine, memory, Ledger::zeros(machine), key)
@@ -60,7 +60,8 @@ pub fn play<'p>(bench: &mut Monitor, plan: &'p [Item]) -> Result<Vec<Played<'p>>
         let calls: Vec<u32> = batch.iter().flat_map(|item| item.record).collect();
         let mut answers = vec![0; calls.len()];
         bench.batch_words(&calls, &mut answers)?;
-        let answers = answers.chunks_exact(RECORD).map(|words| words.try_into().expect("32"));
+        let answers = answers.chunks_exact(RECORD_WORDS);
+        let answers = answers.map(|words| words.try_into().expect("a record"));
         played.extend(batch.iter().zip(answers).map(|(item, words)| Played::new(item, words)));
     }
     Ok(played)

@@ -1,7 +1,8 @@
 //! What the words after the program's name ask for.
 
 use crate::{Complaint, KEY};
-use monitor::Machine;
+use monitor::layout::{KEY_WORDS, MOST_FRAMES, MOST_PAGES};
+use monitor::{Key, Machine};
 
 /// What is asked for.
 #[derive(Debug, PartialEq, Eq)]
@@ -20,7 +21,7 @@ pub struct Plan {
     /// The box.
     pub machine: Machine,
     /// Its key.
-    pub key: [u32; 8],
+    pub key: Key,
     /// Whether the answers are wanted as JSON lines.
     pub json: bool,
 }
@@ -41,7 +42,7 @@ fn plan(words: &[String]) -> Result<Plan, Complaint> {
         match word.as_str() {
             "--json" => json = true,
             "--machine" => machine = machine_of(words.next())?,
-            "--key" => key = numbers("--key", "8 numbers with commas between", words.next())?,
+            "--key" => key = key_of(words.next())?,
             option if option.starts_with('-') => {
                 return Err(format!("expected --machine, --key or --json, found '{option}'"));
             }
@@ -68,6 +69,10 @@ fn numbers<const N: usize>(
         .ok_or_else(|| format!("{option}: expected {expected}, found '{word}'"))
 }
 
+fn key_of(word: Option<&String>) -> Result<Key, Complaint> {
+    numbers("--key", &format!("{KEY_WORDS} numbers with commas between"), word)
+}
+
 fn machine_of(word: Option<&String>) -> Result<Machine, Complaint> {
     let [frames, secure, pages, monitor, monitors] =
         numbers("--machine", "F,s,n,m,k, five numbers with commas between", word)?;
@@ -79,16 +84,16 @@ fn machine_of(word: Option<&String>) -> Result<Machine, Complaint> {
 }
 
 /// The first rule of a box that these numbers break.
-fn why_unfit(machine: Machine) -> Option<&'static str> {
+fn why_unfit(machine: Machine) -> Option<String> {
     let Machine { frames, secure, pages, monitor, monitors } = machine;
     let within = |first: u32, count: u32| first <= frames && count <= frames - first;
     let rules = [
-        ((1..=4096).contains(&frames), "F from 1 to 4096"),
-        ((1..=256).contains(&pages), "n from 1 to 256"),
-        (monitors >= 1, "k of at least 1"),
-        (within(secure, pages), "secure frames s to s+n-1 below F"),
-        (within(monitor, monitors), "monitor frames m to m+k-1 below F"),
-        (machine.fits(), "secure and monitor frames that share none"),
+        ((1..=MOST_FRAMES).contains(&frames), format!("F from 1 to {MOST_FRAMES}")),
+        ((1..=MOST_PAGES).contains(&pages), format!("n from 1 to {MOST_PAGES}")),
+        (monitors >= 1, "k of at least 1".into()),
+        (within(secure, pages), "secure frames s to s+n-1 below F".into()),
+        (within(monitor, monitors), "monitor frames m to m+k-1 below F".into()),
+        (machine.fits(), "secure and monitor frames that share none".into()),
     ];
-    rules.iter().find(|(kept, _)| !kept).map(|(_, rule)| *rule)
+    rules.into_iter().find(|(kept, _)| !kept).map(|(_, rule)| rule)
 }

@@ -2,6 +2,7 @@
 //! by a semicolon, with spaces and line feeds between.
 
 use crate::Complaint;
+use monitor::layout::RECORD_WORDS;
 use monitor::{Call, Record};
 use std::fmt;
 
@@ -24,7 +25,7 @@ impl Item {
 
     /// The name of its call, whatever its arguments are.
     pub fn name(&self) -> Option<&'static str> {
-        let mut bare = [0; 32];
+        let mut bare = [0; RECORD_WORDS];
         bare[0] = self.record[0];
         Call::decode(&bare).map(|call| call.name())
     }
@@ -75,7 +76,7 @@ impl Reader<'_> {
         if self.next().is_none() {
             return Ok(None);
         }
-        let mut item = Item { line: self.line, given: 1, record: [0; 32] };
+        let mut item = Item { line: self.line, given: 1, record: [0; RECORD_WORDS] };
         item.record[0] = self.number("a call number")?;
         loop {
             self.pass_blanks();
@@ -84,8 +85,12 @@ impl Reader<'_> {
                 return Ok(Some(item));
             }
             let argument = self.number("an argument or a semicolon")?;
-            let place = item.record.get_mut(item.given);
-            *place.ok_or("expected a semicolon after at most 31 arguments")? = argument;
+            let most = RECORD_WORDS - 1;
+            let place = item
+                .record
+                .get_mut(item.given)
+                .ok_or_else(|| format!("expected a semicolon after at most {most} arguments"));
+            *place? = argument;
             item.given += 1;
         }
     }

@@ -4,6 +4,7 @@
 mod common;
 
 use common::{play, Folder};
+use monitor::layout::{MOST_FRAMES, MOST_PAGES, RECORD_WORDS};
 
 fn complaint(folder: &Folder, words: &[&str]) -> String {
     let out = play(folder, words);
@@ -19,7 +20,7 @@ fn bad_plans() {
     let after = "expected a space, a line feed or a semicolon after a number, found";
     let more = "expected an argument or a semicolon, found";
     let most = "expected a number up to 4294967295, found a higher one";
-    let many = format!("34{};", " 7".repeat(32));
+    let many = format!("34{};", " 7".repeat(RECORD_WORDS));
     let plans: &[(&[u8], String)] = &[
         (b";", "1: expected a call number, found ';'".into()),
         (b"1;;", "1: expected a call number, found ';'".into()),
@@ -49,7 +50,10 @@ fn bad_plans() {
         (b"1;\n2 0 4294967296;", format!("2: {most}")),
         (b"2 0 99999999999999999999999999999999;", format!("1: {most}")),
         (b"18446744073709551617;", format!("1: {most}")),
-        (many.as_bytes(), "1: expected a semicolon after at most 31 arguments".into()),
+        (
+            many.as_bytes(),
+            format!("1: expected a semicolon after at most {} arguments", RECORD_WORDS - 1),
+        ),
     ];
     let folder = Folder::new("bad-plans");
     for (text, expected) in plans {
@@ -112,11 +116,15 @@ fn bad_options() {
 fn machines_that_do_not_fit() {
     let folder = Folder::new("bad-machines");
     std::fs::write(folder.0.join("plan"), "1;").expect("written");
+    let (frames, pages) =
+        (format!("F from 1 to {MOST_FRAMES}"), format!("n from 1 to {MOST_PAGES}"));
+    let many_frames = format!("{},6,8,0,2", MOST_FRAMES + 1);
+    let many_pages = format!("{MOST_FRAMES},6,{},0,2", MOST_PAGES + 1);
     for (numbers, rule) in [
-        ("0,6,8,0,2", "F from 1 to 4096"),
-        ("4097,6,8,0,2", "F from 1 to 4096"),
-        ("16,6,0,0,2", "n from 1 to 256"),
-        ("4096,6,257,0,2", "n from 1 to 256"),
+        ("0,6,8,0,2", &frames[..]),
+        (&many_frames, &frames),
+        ("16,6,0,0,2", &pages),
+        (&many_pages, &pages),
         ("16,6,8,0,0", "k of at least 1"),
         ("13,6,8,0,2", "secure frames s to s+n-1 below F"),
         ("16,4294967295,8,0,2", "secure frames s to s+n-1 below F"),

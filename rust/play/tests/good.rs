@@ -4,6 +4,7 @@
 mod common;
 
 use common::{play, Folder};
+use monitor::layout::{MOST_CALLS, MOST_PAGES, RECORD_WORDS};
 use play::plan::read;
 
 fn words(text: &str) -> Vec<Vec<u32>> {
@@ -27,8 +28,8 @@ fn forms() {
     assert_eq!(words(""), Vec::<Vec<u32>>::new());
     assert_eq!(words(" \n \n"), Vec::<Vec<u32>>::new());
     assert_eq!(words("4294967295 4294967295;"), [[u32::MAX, u32::MAX]]);
-    let most = format!("34{};", " 7".repeat(31));
-    assert_eq!(words(&most)[0].len(), 32);
+    let most = format!("34{};", " 7".repeat(RECORD_WORDS - 1));
+    assert_eq!(words(&most)[0].len(), RECORD_WORDS);
 }
 
 #[test]
@@ -75,8 +76,8 @@ fn a_long_plan_answers_as_the_second_program_does() {
 /// More calls than a batch takes.
 #[test]
 fn more_than_a_batch() {
-    let printed = run(&"13; 2 0 1; 11 0; 12 1; 12 0;\n".repeat(300), &["--json"]);
-    assert_eq!(printed.lines().count(), 1500);
+    let printed = run(&"13; 2 0 1; 11 0; 12 1; 12 0;\n".repeat(MOST_CALLS), &["--json"]);
+    assert_eq!(printed.lines().count(), 5 * MOST_CALLS);
     assert!(printed.lines().all(|line| line.contains("\"code\":0,")));
 }
 
@@ -98,8 +99,9 @@ fn the_table() {
 
 #[test]
 fn another_machine_and_key() {
-    let printed = run("1;", &["--machine", "300,0,256,256,1", "--json"]);
-    assert!(printed.contains("\"values\":[256]"), "{printed}");
+    let largest = format!("{},0,{MOST_PAGES},{MOST_PAGES},1", MOST_PAGES + 44);
+    let printed = run("1;", &["--machine", &largest, "--json"]);
+    assert!(printed.contains(&format!("\"values\":[{MOST_PAGES}]")), "{printed}");
     let attest = "2 0 1; 3 0 2 0; 8 0; 9 2; 33 1 2 3 4 5 6 7 8;";
     let one = run(attest, &[]);
     let other = run(attest, &["--key", "8,7,6,5,4,3,2,4294967295"]);

@@ -1,12 +1,15 @@
 //! Damaged states: acceptance says what each kind of damage calls for, both
 //! checks say the same, and a batch on a refused state changes nothing.
 
-use second::layout::RECORD_WORDS;
+use second::layout::{MOST_PAGES, RECORD_WORDS};
 use second::random::{
     damage, fresh, kinds, limit_machines, next_call, random_machine, Rng, Verdict, View,
 };
 use second::{accepts, batch, direct, Machine};
 use std::collections::BTreeMap;
+
+/// Frames beyond which a machine takes too long.
+const LARGE: u32 = MOST_PAGES + 44;
 
 fn both(machine: Machine, memory: &[u32], ledger: &[u32]) -> bool {
     let yes = accepts(machine, memory, ledger);
@@ -38,7 +41,7 @@ fn each_kind_gets_its_verdict() {
     let mut done: BTreeMap<&str, [u32; 2]> = BTreeMap::new();
     for _ in 0..50 {
         let machine = random_machine(&mut rng);
-        if machine.frames > 300 {
+        if machine.frames > LARGE {
             continue;
         }
         let (mut memory, mut ledger) = fresh(&mut rng, machine);
@@ -75,7 +78,7 @@ fn each_kind_gets_its_verdict() {
 fn the_two_checks_agree_on_random_damage() {
     let mut rng = Rng::new(22);
     let mut machines = limit_machines();
-    machines.retain(|machine| machine.frames <= 300);
+    machines.retain(|machine| machine.frames <= LARGE);
     machines.extend((0..40).map(|_| random_machine(&mut rng)).filter(|m| m.frames <= 100));
     let mut seen = [0; 2];
     for machine in machines {

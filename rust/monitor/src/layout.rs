@@ -1,0 +1,80 @@
+//! Every size and every place of the lent words, each said once.
+
+/// F at most.
+pub const MOST_FRAMES: u32 = 4096;
+/// n at most.
+pub const MOST_PAGES: u32 = 256;
+/// Words in a frame, a page or a table.
+pub const FRAME_WORDS: usize = 1024;
+/// Words in the ledger's header.
+pub const HEADER_WORDS: usize = 32;
+/// Words in the record of a page, of a call and of an answer.
+pub const RECORD_WORDS: usize = 32;
+/// Words in the key, in a hash and in a MAC.
+pub const KEY_WORDS: usize = 8;
+/// Calls in a batch at most.
+pub const MOST_CALLS: usize = 512;
+/// Tables that a first-level page can name.
+pub const MOST_TABLES: u32 = 256;
+/// r0-r15.
+pub const REGISTERS: usize = 16;
+/// r0-r15 and the flags.
+pub const SAVED_WORDS: usize = REGISTERS + 1;
+
+/// Header: the running thread's page plus 1, or 0.
+pub const RUNNING: usize = 0;
+/// Header: where the key starts.
+pub const KEY_START: usize = 1;
+/// Header: where the free map starts.
+pub const MAP_START: usize = KEY_START + KEY_WORDS;
+/// Words in the free map, a bit a page.
+pub const MAP_WORDS: usize = (MOST_PAGES / u32::BITS) as usize;
+
+/// The types in word 0 of a page's record.
+#[allow(missing_docs)]
+pub mod kind {
+    pub const FREE: u32 = 0;
+    pub const SPACE: u32 = 1;
+    pub const THREAD: u32 = 2;
+    pub const FIRST_TABLE: u32 = 3;
+    pub const TABLE: u32 = 4;
+    pub const DATA: u32 = 5;
+    pub const SPARE: u32 = 6;
+}
+
+/// The words of a page's record, by type.
+pub mod word {
+    /// The type.
+    pub const TYPE: usize = 0;
+    /// The space that the page belongs to.
+    pub const OWNER: usize = 1;
+
+    /// Of a space: its first-level page.
+    pub const FIRST: usize = 2;
+    /// Of a space: how far it has come.
+    pub const STATE: usize = 3;
+    /// Of a space: how many other pages it owns.
+    pub const COUNT: usize = 4;
+    /// Of a space: blocks measured.
+    pub const BLOCKS: usize = 5;
+    /// Of a space: where the hash starts.
+    pub const HASH: usize = 6;
+
+    /// Of a thread: where Enter starts it.
+    pub const ENTRY: usize = 2;
+    /// Of a thread: 1 while it is suspended.
+    pub const SUSPENDED: usize = 3;
+    /// Of a thread: where the saved registers start.
+    pub const SAVED: usize = 4;
+
+    /// Of a table: its index.
+    pub const INDEX: usize = 2;
+    /// Of a data page: its mapping word.
+    pub const MAPPING: usize = 2;
+}
+
+/// Where the record of this page stands in the ledger.
+pub const fn record_of(page: u32) -> std::ops::Range<usize> {
+    let start = HEADER_WORDS + RECORD_WORDS * page as usize;
+    start..start + RECORD_WORDS
+}
