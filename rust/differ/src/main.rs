@@ -9,11 +9,10 @@ use std::time::{Duration, Instant};
 
 const USAGE: &str = "usage: differ [--seed SEED] [--rounds ROUNDS | --minutes MINUTES]";
 
-/// The gate's seed and rounds. In an emulator, which .ci/host names in RUNNER,
-/// a round takes five to ten times as long, and fewer do.
+/// The gate's seed and rounds, the same on every machine: so few that an
+/// emulator, where a round takes five to ten times as long, can do them too.
 const SEED: u64 = 20_261_000;
-const ROUNDS: u64 = 1200;
-const ROUNDS_EMULATED: u64 = 200;
+const ROUNDS: u64 = 400;
 
 /// What the gate's run must have tried at least.
 const CALLS: u64 = 50_000;
@@ -26,22 +25,13 @@ struct Run {
 
 enum Length {
     /// The gate's, which must meet everything.
-    Gate(u64),
+    Gate,
     Rounds(u64),
     Time(Duration),
 }
 
-fn gate_rounds() -> u64 {
-    let emulated = std::env::var("RUNNER").is_ok_and(|runner| !runner.is_empty());
-    if emulated {
-        ROUNDS_EMULATED
-    } else {
-        ROUNDS
-    }
-}
-
 fn options(words: &[String]) -> Option<Run> {
-    let mut run = Run { seed: SEED, length: Length::Gate(gate_rounds()) };
+    let mut run = Run { seed: SEED, length: Length::Gate };
     let mut words = words.iter();
     while let Some(word) = words.next() {
         let number: u64 = words.next()?.parse().ok()?;
@@ -77,7 +67,8 @@ fn differ(run: &Run) -> Result<(), String> {
     hashes::hashes(run.seed)?;
     for seed in run.seed.. {
         let over = match run.length {
-            Length::Gate(rounds) | Length::Rounds(rounds) => tally.rounds >= rounds,
+            Length::Gate => tally.rounds >= ROUNDS,
+            Length::Rounds(rounds) => tally.rounds >= rounds,
             Length::Time(time) => start.elapsed() >= time,
         };
         if over {
@@ -92,7 +83,7 @@ fn differ(run: &Run) -> Result<(), String> {
     println!("{tally}");
     println!("differ: no difference in {:.1} s", start.elapsed().as_secs_f64());
     match run.length {
-        Length::Gate(_) => enough(&tally),
+        Length::Gate => enough(&tally),
         _ => Ok(()),
     }
 }
