@@ -1,6 +1,8 @@
 //! What a piece of work costs: time by the clock, or instructions where the
-//! program runs in an emulator, whose times say nothing.
+//! program runs in an emulator or under callgrind, whose times say nothing.
 
+use std::cell::Cell;
+use std::hint::black_box;
 use std::path::{Path, PathBuf};
 use std::time::{Duration, Instant};
 
@@ -18,7 +20,10 @@ pub enum Meter {
     Clock,
     /// By the emulator's counter of instructions, which writes its count to
     /// this file whenever the program yields.
-    Instructions(PathBuf),
+    Emulator(PathBuf),
+    /// By callgrind, which counts the instructions of [`run_once`] alone and
+    /// dumps them before [`dump`] to this file and a number: so many so far.
+    Callgrind(PathBuf, Cell<u32>),
 }
 
 /// How long a row may take by the clock, and its fewest and most rounds.
@@ -30,9 +35,8 @@ impl Meter {
     pub fn unit(&self) -> &'static str {
         match self {
             Meter::Clock => "nanoseconds",
-            Meter::Instructions(_) => {
-                "instructions, counted in an emulator, whose times say nothing"
-            }
+            Meter::Emulator(_) => "instructions, counted in an emulator",
+            Meter::Callgrind(..) => "instructions, counted by callgrind",
         }
     }
 
@@ -40,7 +44,16 @@ impl Meter {
     pub fn measure(&self, sides: &mut [&mut dyn Side]) -> Vec<f64> {
         match self {
             Meter::Clock => by_clock(sides),
-            Meter::Instructions(file) => by_count(file, sides),
+            Meter::Emulator(file) => by_count(sides, &|side| {
+                let start = counted(file);
+                run_once(side);
+                counted(file) - start
+            }),
+            Meter::Callgrind(file, dumps) => by_count(sides, &|side| {
+                run_once(side);
+                dump(dumps);
+                dumped(&format!("{}.{}", file.display(), dumps.get()))
+            }),
         }
     }
 }
@@ -65,7 +78,7 @@ fn by_clock(sides: &mut [&mut dyn Side]) -> Vec<f64> {
 fn timed(side: &mut dyn Side) -> f64 {
     side.prepare();
     let start = Instant::now();
-    side.run();
+    run_once(side);
     start.elapsed().as_nanos() as f64
 }
 
@@ -74,15 +87,27 @@ fn median(samples: &mut [f64]) -> f64 {
     samples[samples.len() / 2]
 }
 
+/// The work, under a name that callgrind can be told.
+#[inline(never)]
+pub fn run_once(side: &mut dyn Side) {
+    side.run();
+    // What it does last must not be a jump: callgrind waits for its return.
+    black_box(());
+}
+
+/// One more dump: callgrind makes it.
+#[inline(never)]
+pub fn dump(dumps: &Cell<u32>) {
+    dumps.set(dumps.get() + 1);
+}
+
 /// The least of a few runs, less an empty one: the first run may do work that
 /// is done once.
-fn by_count(file: &Path, sides: &mut [&mut dyn Side]) -> Vec<f64> {
+fn by_count(sides: &mut [&mut dyn Side], run: &dyn Fn(&mut dyn Side) -> f64) -> Vec<f64> {
     let count = |side: &mut dyn Side| {
         let runs = (0..3).map(|_| {
             side.prepare();
-            let start = counted(file);
-            side.run();
-            counted(file) - start
+            run(side)
         });
         runs.fold(f64::INFINITY, f64::min)
     };
@@ -96,9 +121,16 @@ impl Side for Nothing {
     fn run(&mut self) {}
 }
 
-/// The counter's count at this moment.
+/// The emulator's count at this moment.
 fn counted(file: &Path) -> f64 {
     std::thread::yield_now();
     let bytes = std::fs::read(file).expect("the counter's file");
     u64::from_le_bytes(bytes.try_into().expect("8 bytes")) as f64
+}
+
+/// The count of one of callgrind's dumps.
+fn dumped(file: &str) -> f64 {
+    let text = std::fs::read_to_string(file).expect("callgrind's dump");
+    let mut counts = text.lines().filter_map(|line| line.strip_prefix("totals: "));
+    counts.next().and_then(|count| count.parse().ok()).expect("a count in callgrind's dump")
 }

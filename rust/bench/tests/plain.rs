@@ -1,9 +1,11 @@
 //! The plain side of the table answers as the second program does, so that
 //! the two sides of a row do the same work.
 
-use bench::plain;
+use bench::plain::{self, Folded, Plain, CALLS};
+use second::calls::Code;
+use second::layout::RECORD_WORDS;
 use second::random::{fresh, next_call, random_machine, Rng, View};
-use second::{batch, sha};
+use second::{batch, sha, DONE};
 
 #[test]
 fn hashes_agree() {
@@ -24,7 +26,7 @@ fn hashes_agree() {
 fn calls_agree() {
     let mut rng = Rng::new(42);
     let mut seen = std::collections::BTreeSet::new();
-    for _ in 0..60 {
+    for _ in 0..240 {
         let machine = random_machine(&mut rng);
         if machine.frames > 30 {
             continue;
@@ -32,15 +34,24 @@ fn calls_agree() {
         let (mut memory, mut ledger) = fresh(&mut rng, machine);
         for _ in 0..150 {
             let call = next_call(&mut rng, View { machine, memory: &memory, ledger: &ledger });
-            let (mut mem, mut led) = (memory.clone(), ledger.clone());
-            let (mut answer, mut plainly) = ([0; 32], [7; 32]);
-            assert_eq!(batch(machine, &mut memory, &mut ledger, &call, &mut answer), 0);
-            if plain::CALLS.iter().any(|(number, _)| *number == call[0]) {
-                assert_eq!(plain::batch(machine, &mut mem, &mut led, &call, &mut plainly), 0);
-                assert!(plainly == answer && mem == memory && led == ledger, "{call:?}");
-                seen.insert((call[0], answer[0]));
+            let (old_memory, old_ledger) = (memory.clone(), ledger.clone());
+            let mut answer = [0; RECORD_WORDS];
+            assert_eq!(batch(machine, &mut memory, &mut ledger, &call, &mut answer), DONE);
+            if !CALLS.iter().any(|(number, _)| *number == call[0]) {
+                continue;
             }
+            for twin in [plain::batch::<Plain>, plain::batch::<Folded>] {
+                let (mut mem, mut led) = (old_memory.clone(), old_ledger.clone());
+                let mut plainly = [7; RECORD_WORDS];
+                assert_eq!(twin(machine, &mut mem, &mut led, &call, &mut plainly), DONE);
+                assert!(plainly == answer && mem == memory && led == ledger, "{call:?}");
+            }
+            seen.insert((call[0], answer[0]));
         }
     }
-    assert!(plain::CALLS.iter().all(|(number, _)| seen.contains(&(*number, 0))), "{seen:?}");
+    let done_and_bad = [DONE, Code::BadRecord as u32];
+    for (number, code) in CALLS.iter().flat_map(|(call, _)| done_and_bad.map(|code| (*call, code)))
+    {
+        assert!(seen.contains(&(number, code)), "call {number} answered {code}");
+    }
 }

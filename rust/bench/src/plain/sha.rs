@@ -1,6 +1,7 @@
 //! SHA-256 and HMAC on words, as one would write them plainly.
 
-pub type Hash = [u32; 8];
+use second::layout::{BLOCK_WORDS, HASH_WORDS};
+pub use second::sha::Hash;
 
 pub const START: Hash = [
     0x6a09e667, 0xbb67ae85, 0x3c6ef372, 0xa54ff53a, 0x510e527f, 0x9b05688c, 0x1f83d9ab, 0x5be0cd19,
@@ -20,8 +21,8 @@ const K: [u32; 64] = [
 /// One block of 16 words goes into the hash.
 pub fn compress(hash: &mut Hash, block: &[u32]) {
     let mut w = [0u32; 64];
-    w[..16].copy_from_slice(block);
-    for t in 16..64 {
+    w[..BLOCK_WORDS].copy_from_slice(block);
+    for t in BLOCK_WORDS..64 {
         let (x, y) = (w[t - 15], w[t - 2]);
         let s0 = x.rotate_right(7) ^ x.rotate_right(18) ^ (x >> 3);
         let s1 = y.rotate_right(17) ^ y.rotate_right(19) ^ (y >> 10);
@@ -47,14 +48,14 @@ pub fn compress(hash: &mut Hash, block: &[u32]) {
 
 /// Whole blocks go into the hash.
 pub fn absorb(hash: &mut Hash, words: &[u32]) {
-    for block in words.chunks_exact(16) {
+    for block in words.chunks_exact(BLOCK_WORDS) {
         compress(hash, block);
     }
 }
 
 /// A last block: these words, a one bit, zeros, and the message's bits.
 fn close(hash: &mut Hash, words: &[u32], bits: u32) {
-    let mut block = [0; 16];
+    let mut block = [0; BLOCK_WORDS];
     block[..words.len()].copy_from_slice(words);
     block[words.len()] = 0x8000_0000;
     block[15] = bits;
@@ -63,14 +64,14 @@ fn close(hash: &mut Hash, words: &[u32], bits: u32) {
 
 /// HMAC by a key of 8 words over two times 8 words.
 pub fn mac(key: &[u32], measurement: &[u32], data: &[u32]) -> Hash {
-    let (mut inner, mut outer) = ([0x3636_3636; 16], [0x5c5c_5c5c; 16]);
+    let (mut inner, mut outer) = ([0x3636_3636; BLOCK_WORDS], [0x5c5c_5c5c; BLOCK_WORDS]);
     for (place, word) in key.iter().enumerate() {
         inner[place] ^= word;
         outer[place] ^= word;
     }
-    let mut text = [0; 16];
-    text[..8].copy_from_slice(measurement);
-    text[8..].copy_from_slice(data);
+    let mut text = [0; BLOCK_WORDS];
+    text[..HASH_WORDS].copy_from_slice(measurement);
+    text[HASH_WORDS..].copy_from_slice(data);
     let mut hash = START;
     compress(&mut hash, &inner);
     compress(&mut hash, &text);

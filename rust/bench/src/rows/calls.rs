@@ -4,8 +4,12 @@
 use super::boxes::{box_after, numbers, records, Lent};
 use super::Row;
 use crate::meter::{Meter, Side};
-use crate::plain;
-use second::Machine;
+use crate::plain::{self, Folded, Plain};
+use second::calls::number::*;
+use second::cases::KEY;
+use second::layout::{FRAME_WORDS, HASH_WORDS, MOST_CALLS, RECORD_WORDS};
+use second::mapping::{Mapping, READ, WORD_BYTES, WRITE};
+use second::{Machine, DONE};
 use std::hint::black_box;
 
 /// What is measured: a batch on a box, and how often it does its work.
@@ -36,7 +40,7 @@ impl Side for Batching<'_> {
     fn run(&mut self) {
         let Lent { machine, memory, ledger } = &mut self.lent;
         let code = (self.batch)(*machine, memory, ledger, black_box(self.calls), &mut self.answers);
-        assert_eq!(code, 0);
+        assert_eq!(code, DONE);
     }
 }
 
@@ -51,47 +55,48 @@ fn side<'w>(work: &'w Work, batch: Batch, calls: &'w [u32]) -> Batching<'w> {
 
 /// The row of a work, per call or pair of calls.
 pub fn row(meter: &Meter, work: &Work) -> Row {
-    let mut sides = [
-        (ours as Batch, &work.batch[..]),
-        (ours, &[]),
-        (plain::batch, &work.batch),
-        (plain::batch, &[]),
-    ]
-    .map(|(batch, calls)| side(work, batch, calls));
-    let costs = meter.measure(&mut sides.each_mut().map(|side| side as &mut dyn Side));
-    let [our, _, plain, _] = &sides;
-    assert!(our.answers == plain.answers, "both sides do the same");
-    assert!(our.answers.chunks(32).all(|answer| answer[0] == 0), "each call is done");
-    let times = work.times as f64;
-    Row {
-        name: work.name.into(),
-        ours: (costs[0] - costs[1]) / times,
-        plain: (costs[2] - costs[3]) / times,
-        paper: work.paper,
-    }
+    let batches = [ours, plain::batch::<Plain>, plain::batch::<Folded>];
+    let mut whole = batches.map(|batch: Batch| side(work, batch, &work.batch));
+    let mut empty = batches.map(|batch: Batch| side(work, batch, &[]));
+    let sides = whole.iter_mut().chain(&mut empty);
+    let costs = meter.measure(&mut sides.map(|side| side as &mut dyn Side).collect::<Vec<_>>());
+    let [our, plain, folded] = whole.map(|side| side.answers);
+    assert!(our == plain && our == folded, "all sides do the same");
+    assert!(our.chunks(RECORD_WORDS).all(|answer| answer[0] == DONE), "each call is done");
+    let cost = |side: usize| (costs[side] - costs[batches.len() + side]) / work.times as f64;
+    let (name, paper) = (work.name.into(), work.paper);
+    Row { name, ours: cost(0), plain: cost(1), folded: Some(cost(2)), paper }
+}
+
+/// The address of slot 1 of the first table.
+const PAGE: u32 = FRAME_WORDS as u32 * WORD_BYTES;
+
+/// The mapping word of a slot of the first table.
+fn writable(slot: u32) -> u32 {
+    Mapping::at(0, slot as usize, READ | WRITE).0
 }
 
 /// A space with a table, a data page at 4096, a thread on page 4, a spare
 /// page 5; with its thread running, if that is wanted.
 fn bench_box(running: bool) -> Lent {
     let mut rows = vec![
-        vec![2, 0, 1],
-        vec![4, 0, 2, 0],
-        vec![6, 0, 3, 4099, 5],
-        vec![3, 0, 4, 4096],
-        vec![5, 0, 5],
-        vec![8, 0],
+        vec![INIT_ADDR_SPACE, 0, 1],
+        vec![INIT_TABLE, 0, 2, 0],
+        vec![MAP_SECURE, 0, 3, writable(1), 5],
+        vec![INIT_THREAD, 0, 4, PAGE],
+        vec![ALLOC_SPARE, 0, 5],
+        vec![FINALISE, 0],
     ];
     if running {
-        rows.push(vec![9, 4, 7, 8, 9]);
+        rows.push(vec![ENTER, 4, 7, 8, 9]);
     }
     box_after(8, &rows)
 }
 
-/// 512 calls: so many of one call, or of two in turns.
+/// As many calls as a batch has, of one call or of two in turns.
 fn batch_of(call: impl Fn(u32) -> Vec<Vec<u32>>) -> (Vec<u32>, usize) {
     let each = call(0).len();
-    let rows: Vec<Vec<u32>> = (0..512 / each as u32).flat_map(call).collect();
+    let rows: Vec<Vec<u32>> = (0..(MOST_CALLS / each) as u32).flat_map(call).collect();
     (records(&rows), rows.len() / each)
 }
 
@@ -106,30 +111,40 @@ fn work(
 }
 
 /// MapSecure uses its pages up, so its box is large and its batch shorter.
+const PAGES: u32 = 256;
+
 fn map_secure() -> Work {
-    let lent = box_after(256, &[vec![2, 0, 1], vec![4, 0, 2, 0]]);
+    let lent = box_after(PAGES, &[vec![INIT_ADDR_SPACE, 0, 1], vec![INIT_TABLE, 0, 2, 0]]);
+    let pages = 3..PAGES;
     let rows: Vec<Vec<u32>> =
-        (3..256).map(|page| vec![6, 0, page, page << 12 | 3, 2 + page % 4]).collect();
+        pages.map(|page| vec![MAP_SECURE, 0, page, writable(page), 2 + page % 4]).collect();
     Work { name: "MapSecure", paper: "", lent, batch: records(&rows), times: rows.len() }
 }
 
 fn verify(turn: u32) -> Vec<u32> {
-    let (data, measurement) = ([turn; 8], [7; 8]);
-    let mac = second::sha::mac(&[1, 2, 3, 4, 5, 6, 7, 8], &measurement, &data);
-    [&[34][..], &data, &measurement, &mac].concat()
+    let (data, measurement) = ([turn; HASH_WORDS], [7; HASH_WORDS]);
+    let mac = second::sha::mac(&KEY, &measurement, &data);
+    [&[VERIFY][..], &data, &measurement, &mac].concat()
+}
+
+/// A word of the data page.
+fn address(turn: u32) -> u32 {
+    PAGE + WORD_BYTES * (turn * 37 % FRAME_WORDS as u32)
 }
 
 /// Everything that is measured.
 pub fn works() -> Vec<Work> {
-    let attest = |turn| vec![[&[33][..], &[turn; 8]].concat()];
+    let attest = |turn| vec![[&[ATTEST][..], &[turn; HASH_WORDS]].concat()];
     vec![
-        work("GetPhysPages", "123", false, |_| vec![vec![1]]),
-        work("Load", "", true, |turn| vec![vec![41, 4096 + 4 * (turn * 37 % 1024)]]),
-        work("Store", "", true, |turn| vec![vec![42, 4096 + 4 * (turn * 37 % 1024), turn]]),
-        work("Enter + Exit", "738", false, |_| vec![vec![9, 4, 7, 8, 9], vec![38, 5]]),
-        work("AllocSpare + Remove", "217, AllocSpare", false, |_| vec![vec![5, 0, 6], vec![12, 6]]),
+        work("GetPhysPages", "123", false, |_| vec![vec![GET_PHYS_PAGES]]),
+        work("Load", "", true, |turn| vec![vec![LOAD, address(turn)]]),
+        work("Store", "", true, |turn| vec![vec![STORE, address(turn), turn]]),
+        work("Enter + Exit", "738", false, |_| vec![vec![ENTER, 4, 7, 8, 9], vec![EXIT, 5]]),
+        work("AllocSpare + Remove", "217, AllocSpare", false, |_| {
+            vec![vec![ALLOC_SPARE, 0, 6], vec![REMOVE, 6]]
+        }),
         work("MapData + UnmapData", "5826, MapData", true, |_| {
-            vec![vec![36, 5, 8195], vec![37, 5]]
+            vec![vec![MAP_DATA, 5, writable(2)], vec![UNMAP_DATA, 5]]
         }),
         map_secure(),
         work("Attest", "12411", true, attest),

@@ -1,11 +1,11 @@
-//! SHA-256 of one page of 64 blocks.
+//! SHA-256 of one page.
 
 use super::Row;
 use crate::meter::{Meter, Side};
 use crate::plain;
+use crate::plain::sha::Hash;
+use second::layout::FRAME_WORDS;
 use std::hint::black_box;
-
-type Hash = [u32; 8];
 
 struct Hashing {
     hash: Hash,
@@ -20,7 +20,7 @@ impl Side for Hashing {
 }
 
 fn hashing(absorb: fn(Hash, &[u32]) -> Hash) -> Hashing {
-    let page = (0..1024).map(|word: u32| word.wrapping_mul(0x9e37_79b9)).collect();
+    let page = (0..FRAME_WORDS as u32).map(|word| word.wrapping_mul(0x9e37_79b9)).collect();
     Hashing { hash: hash::START, page, absorb }
 }
 
@@ -38,6 +38,9 @@ pub fn rows(meter: &Meter) -> Vec<Row> {
     let (mut our, mut plain) = (hashing(ours), hashing(plainly));
     let mut second = hashing(second::sha::add);
     let costs = meter.measure(&mut [&mut our, &mut plain, &mut second]);
-    let row = |name: &str, plain| Row { name: name.into(), ours: costs[0], plain, paper: "" };
+    let row = |name: &str, plain| {
+        let name = name.into();
+        Row { name, ours: costs[0], plain, folded: None, paper: "" }
+    };
     vec![row("SHA-256 of a page", costs[1]), row("  the same, beside the second program", costs[2])]
 }
