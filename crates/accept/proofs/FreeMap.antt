@@ -8,8 +8,7 @@ use native.Mathlib.Omega.{arith}
 use lib.Dec.{eqb, ltb}
 use lib.Pow.{pow-mono, shl-exact}
 use borrow.Author.Tests.{eq-eqb, ne-eqb, lt-ltb, le-ltb}
-use Rattle.ledger.specs.Ledger.{sumBelow}
-use Rattle.walk.specs.Walk.{pick}
+use Rattle.words.specs.Words.{sumBelow, pick}
 use Rattle.accept.specs.Accept.{Words, isFree, mapWord}
 
 module _ (n : ℕ) (w : Words) (p : ℕ) where

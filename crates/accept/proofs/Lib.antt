@@ -1,4 +1,3 @@
-pub mod Answers
 pub mod Slots
 pub mod Sums
 pub mod Words

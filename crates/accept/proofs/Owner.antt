@@ -3,13 +3,13 @@ use Prim.Native.Nat.{ℕ, _+_, _-_}
 use mathlib.Core.Path.{_≡_, sym, subst, _∙_}
 use mathlib.Core.Bool.{Bool}
 use native.Mathlib.Omega.{arith}
+use Rattle.words.specs.Words.{Says}
+use Rattle.words.proofs.Says.{says-same}
 use Rattle.machine.specs.declared.Machine.{Machine}
-use Rattle.machine.specs.Machine.{Says}
 use Rattle.mapping.specs.Mapping.{wellFormed}
-use Rattle.ledger.specs.Ledger.{stopped}
+use Rattle.ledger.specs.Names.{stopped}
 use Rattle.accept.specs.Accept.{Words, Runs}
 use Rattle.accept.specs.Checks.{Going}
-use Rattle.accept.proofs.Answers.{says-same}
 
 -- word k of page p's owner
 pub owner-word : (w : Words) {v a p k : ℕ} → v ≡ w a k → a ≡ w p 1 → v ≡ w (w p 1) k

@@ -4,10 +4,10 @@ use Prim.Native.Nat.{ℕ, zero, suc, _<_}
 use mathlib.Core.Path.{_≡_, refl, sym, subst}
 use mathlib.Core.Logic.{inl, inr, ⊎-elim}
 use native.Mathlib.Omega.{arith}
+use Rattle.words.specs.Words.{recordWords}
 use Rattle.machine.specs.declared.Machine.{Machine}
-use Rattle.machine.specs.Machine.{recordWords}
 use Rattle.mapping.specs.Mapping.{indexOf}
-use Rattle.ledger.specs.Ledger.{free, space, firstLevel, secondLevel, dataPage, stopped}
+use Rattle.ledger.specs.Names.{free, space, firstLevel, secondLevel, dataPage, stopped}
 use Rattle.accept.specs.Accept.{Words, Zeros, Is, Blank, PageOk, Tables, SpaceOk, HeaderOk, Rules}
 use Rattle.accept.specs.Checks.{Owned, Going, Wiped, FirstLinks, SecondLinks, Reached, Page, Pages, Counts}
 

@@ -6,7 +6,7 @@ use native.Mathlib.Omega.{arith}
 use Rattle.machine.specs.declared.Machine.{Machine}
 use Rattle.machine.specs.Machine.{Insecure}
 use Rattle.mapping.specs.Mapping.{indexOf, slotOf, rightsOf}
-use Rattle.ledger.specs.Ledger.{secondLevel}
+use Rattle.ledger.specs.Names.{secondLevel}
 use Rattle.walk.specs.Walk.{slotWord}
 use Rattle.accept.specs.Accept.{Words, Is, SlotOk, SlotOk.empty, SlotOk.outside, SlotOk.inside}
 use Rattle.accept.specs.Checks.{Names, Inside, Reached}

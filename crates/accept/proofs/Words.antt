@@ -6,14 +6,15 @@ use mathlib.Core.List.{List}
 use native.Mathlib.Omega.{arith}
 use lib.ListN.{length, getD, take, drop, length-take, length-drop}
 use lib.Seq.{getD-drop, getD-take}
+use Rattle.words.specs.Words.{recordWords, Says}
+use Rattle.words.proofs.Says.{says-same}
 use Rattle.machine.specs.declared.Machine.{Machine}
-use Rattle.machine.specs.Machine.{frameWords, headerWords, recordWords, Says}
+use Rattle.machine.specs.Machine.{frameWords, headerWords}
 use Rattle.ledger.specs.Ledger.{header, rec}
 use Rattle.memory.specs.Memory.{frame, wordsOf}
 use Rattle.memory.proofs.Frames.{length-wordsOf, wordsOf-at}
 use Rattle.accept.specs.Accept.{Zeros}
 use Rattle.accept.specs.Checks.{Here}
-use Rattle.accept.proofs.Answers.{says-same}
 
 -- ws are the first n words of r
 pub record Shows (ws : List ℕ) (r : ℕ → ℕ) (n : ℕ) : Type 0 where

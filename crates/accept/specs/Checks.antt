@@ -5,10 +5,11 @@ use mathlib.Core.Path.{_≡_}
 use mathlib.Core.Bool.{Bool, true, false}
 use mathlib.Core.List.{List}
 use lib.ListN.{length, getD}
+use Rattle.words.specs.Words.{recordWords, sumBelow}
 use Rattle.machine.specs.declared.Machine.{Machine}
-use Rattle.machine.specs.Machine.{frameWords, recordWords, Lent}
-use Rattle.mapping.specs.Mapping.{indexOf, slotOf, rightsOf, wellFormed}
-use Rattle.ledger.specs.Ledger.{space, firstLevel, secondLevel, dataPage, building, stopped, sumBelow}
+use Rattle.machine.specs.Machine.{frameWords, Lent, mostPages}
+use Rattle.mapping.specs.Mapping.{indexOf, slotOf, rightsOf, wellFormed, mostTables}
+use Rattle.ledger.specs.Names.{space, firstLevel, secondLevel, dataPage, building, stopped, blocksWord, countWord, dataBlocks, firstWord, indexWord, mappingWord, namedEnd, ownedEnd, ownerWord, registersWord, stateWord, suspendedWord, threadEnd, typeWord}
 use Rattle.walk.specs.Walk.{slotWord}
 use Rattle.accept.specs.Accept.{Words, Zeros, SpaceRec, ThreadRec, Is, mappingOf, SlotOk, tally, counted, measured}
 
@@ -22,75 +23,75 @@ abbrev pub Wiped : Machine → Words → ℕ → Type 0
 Wiped b m p = Zeros (m (b .secure + p)) 0 frameWords
 
 pub record FreePage (b : Machine) (w m : Words) (p : ℕ) : Type 0 where
-  pub rest : Zeros (w p) 1 recordWords
+  pub rest : Zeros (w p) ownerWord recordWords
   pub wiped : Wiped b m p
 
 pub record SpacePage (b : Machine) (w m : Words) (p : ℕ) : Type 0 where
   pub layout : SpaceRec (b .pages) p (w p)
   pub wiped : Wiped b m p
-  pub first : (w p 3 ≡ stopped → ⊥) → Is b w p firstLevel (w p 2)
+  pub first : (w p stateWord ≡ stopped → ⊥) → Is b w p firstLevel (w p firstWord)
 
 -- page p's owner is an address space, and its words from lo on are zero
 pub record Owned (b : Machine) (w : Words) (lo p : ℕ) : Type 0 where
-  pub owner : w p 1 < b .pages
-  pub is-space : w (w p 1) 0 ≡ space
+  pub owner : w p ownerWord < b .pages
+  pub is-space : w (w p ownerWord) typeWord ≡ space
   pub rest : Zeros (w p) lo recordWords
 
 pub record ThreadRules (w : Words) (p : ℕ) : Type 0 where
   pub layout : ThreadRec (w p)
-  pub idle : w p 3 ≡ 0 → Zeros (w p) 4 21
-  pub calm : w (w p 1) 3 ≡ building → w p 3 ≡ 0
+  pub idle : w p suspendedWord ≡ 0 → Zeros (w p) registersWord threadEnd
+  pub calm : w (w p ownerWord) stateWord ≡ building → w p suspendedWord ≡ 0
 
 pub record ThreadPage (b : Machine) (w m : Words) (p : ℕ) : Type 0 where
-  pub owned : Owned b w 21 p
+  pub owned : Owned b w threadEnd p
   pub rules : ThreadRules w p
   pub wiped : Wiped b m p
 
 -- what slot i of a first-level page of a may hold
 pub record Names (b : Machine) (w : Words) (a i v : ℕ) : Type 0 where
-  pub table : (T : ℕ) → v ≡ T + 1 → Is b w a secondLevel T × (w T 2 ≡ i)
+  pub table : (T : ℕ) → v ≡ T + 1 → Is b w a secondLevel T × (w T indexWord ≡ i)
 
 -- a slot with rights r names frame f, that of a data page of a whose mapping word is address (i, j) and those rights
 pub record Inside (b : Machine) (w : Words) (a i j f r : ℕ) : Type 0 where
   pub above : b .secure ≤ f
   pub page : Is b w a dataPage (f - b .secure)
-  pub map : w (f - b .secure) 2 ≡ mappingOf i j r
+  pub map : w (f - b .secure) mappingWord ≡ mappingOf i j r
 
 pub record FirstLinks (b : Machine) (w m : Words) (a p : ℕ) : Type 0 where
-  pub only : w a 2 ≡ p
-  pub names : (i : ℕ) → i < 256 → Names b w a i (m (b .secure + p) i)
-  pub rest : Zeros (m (b .secure + p)) 256 frameWords
+  pub only : w a firstWord ≡ p
+  pub names : (i : ℕ) → i < mostTables → Names b w a i (m (b .secure + p) i)
+  pub rest : Zeros (m (b .secure + p)) mostTables frameWords
 
 pub record SecondLinks (b : Machine) (w m : Words) (a p : ℕ) : Type 0 where
-  pub named : m (b .secure + w a 2) (w p 2) ≡ p + 1
-  pub slots : (j : ℕ) → j < frameWords → SlotOk b w a (w p 2) j (m (b .secure + p) j)
+  pub named : m (b .secure + w a firstWord) (w p indexWord) ≡ p + 1
+  pub slots : (j : ℕ) → j < frameWords → SlotOk b w a (w p indexWord) j (m (b .secure + p) j)
 
--- data page d stands in the slot to which its mapping word leads from word 2 of a
+-- data page d stands in the slot to which its mapping word leads from the first-level page of a
 pub record Reached (b : Machine) (w m : Words) (a d : ℕ) : Type 0 where
   pub table : ℕ
-  pub named : m (b .secure + w a 2) (indexOf (w d 2)) ≡ table + 1
-  pub slot : m (b .secure + table) (slotOf (w d 2)) ≡ slotWord (b .secure + d) (rightsOf (w d 2))
+  pub named : m (b .secure + w a firstWord) (indexOf (w d mappingWord)) ≡ table + 1
+  pub slot : m (b .secure + table) (slotOf (w d mappingWord)) ≡ slotWord (b .secure + d) (rightsOf (w d mappingWord))
 
 -- page p's owner is not stopped
 abbrev pub Going : Words → ℕ → Type 0
-Going w p = w (w p 1) 3 ≡ stopped → ⊥
+Going w p = w (w p ownerWord) stateWord ≡ stopped → ⊥
 
 pub record FirstPage (b : Machine) (w m : Words) (p : ℕ) : Type 0 where
-  pub owned : Owned b w 2 p
-  pub links : Going w p → FirstLinks b w m (w p 1) p
+  pub owned : Owned b w ownedEnd p
+  pub links : Going w p → FirstLinks b w m (w p ownerWord) p
 
 pub record SecondPage (b : Machine) (w m : Words) (p : ℕ) : Type 0 where
-  pub owned : Owned b w 3 p
-  pub index : w p 2 < 256
-  pub links : Going w p → SecondLinks b w m (w p 1) p
+  pub owned : Owned b w namedEnd p
+  pub index : w p indexWord < mostTables
+  pub links : Going w p → SecondLinks b w m (w p ownerWord) p
 
 pub record DataPage (b : Machine) (w m : Words) (p : ℕ) : Type 0 where
-  pub owned : Owned b w 3 p
-  pub formed : wellFormed (w p 2) ≡ true
-  pub links : Going w p → Reached b w m (w p 1) p
+  pub owned : Owned b w namedEnd p
+  pub formed : wellFormed (w p mappingWord) ≡ true
+  pub links : Going w p → Reached b w m (w p ownerWord) p
 
 pub record SparePage (b : Machine) (w m : Words) (p : ℕ) : Type 0 where
-  pub owned : Owned b w 2 p
+  pub owned : Owned b w ownedEnd p
   pub wiped : Wiped b m p
 
 -- page p, of type t
@@ -105,16 +106,16 @@ Page b w m p (suc (suc (suc (suc (suc (suc zero)))))) = SparePage b w m p
 Page b w m p (suc (suc (suc (suc (suc (suc (suc t))))))) = ⊥
 
 abbrev pub Pages : Machine → Words → Words → Type 0
-Pages b w m = (p : ℕ) → p < b .pages → Page b w m p (w p 0)
+Pages b w m = (p : ℕ) → p < b .pages → Page b w m p (w p typeWord)
 
 -- ---- the counts of a space that owns so many other pages and has so many blocks to measure
 pub record Count (n : ℕ) (w : Words) (a owned blocks : ℕ) : Type 0 where
-  pub pages : w a 4 ≡ owned
-  pub exact : w a 3 ≡ building → w a 5 ≡ blocks
-  pub room : (w a 3 ≡ building → ⊥) → w a 5 ≤ 65 * n
+  pub pages : w a countWord ≡ owned
+  pub exact : w a stateWord ≡ building → w a blocksWord ≡ blocks
+  pub room : (w a stateWord ≡ building → ⊥) → w a blocksWord ≤ dataBlocks * n
 
 abbrev pub Counts : ℕ → Words → Type 0
-Counts n w = (a : ℕ) → a < n → w a 0 ≡ space → Count n w a (sumBelow n (tally counted w a)) (sumBelow n (tally measured w a))
+Counts n w = (a : ℕ) → a < n → w a typeWord ≡ space → Count n w a (sumBelow n (tally counted w a)) (sumBelow n (tally measured w a))
 
 -- what is summed: blocks measured, or pages owned
 abbrev pub weight : Bool → ℕ → ℕ
@@ -123,5 +124,5 @@ weight false = counted
 
 -- an array with the sum for each owner
 pub record Tallied (g : ℕ → ℕ) (w : Words) (n : ℕ) (c : List ℕ) : Type 0 where
-  pub size : length c ≡ 256
-  pub sums : (a : ℕ) → a < 256 → getD c a 0 ≡ sumBelow n (tally g w a)
+  pub size : length c ≡ mostPages
+  pub sums : (a : ℕ) → a < mostPages → getD c a 0 ≡ sumBelow n (tally g w a)

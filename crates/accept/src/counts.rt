@@ -1,49 +1,65 @@
 // Each address space's counts: pages owned, and blocks measured.
 
+use ledger::BLOCKS;
+use ledger::BUILDING;
+use ledger::COUNT;
+use ledger::DATA;
+use ledger::DATA_BLOCKS;
+use ledger::OWNER;
+use ledger::SPACE;
+use ledger::STATE;
+use ledger::THREAD;
+use ledger::TYPE;
 use ledger::word;
+use machine::MOST_PAGES;
 ghost use mathlib.Core.Path.{_≡_};
 ghost use Prim.Native.Nat.{ℕ, _≤_};
 ghost use lib.ListN.{length, getD};
-ghost use Rattle.machine.specs.Machine.{Says, mostPages};
-ghost use Rattle.ledger.specs.Ledger.{space, rec};
+ghost use Rattle.words.specs.Words.{Says};
+ghost use Rattle.machine.specs.Machine.{mostPages};
+ghost use Rattle.ledger.specs.Names.{space, typeWord};
+ghost use Rattle.ledger.specs.Ledger.{rec};
 ghost use Rattle.accept.specs.Checks.{Count, Counts, weight, Tallied};
+
+// A sum for each page that may own others.
+const SUMS: usize = MOST_PAGES as usize;
 
 // What a page of type t adds: to the blocks a thread 1 and a data page 65, to the pages owned all but a space 1.
 fn weigh(blocks: bool, t: u32) -> u32
     ensures { λ r. ⌜ r ≡ weight blocks t ⌝ }
 {
     if blocks {
-        if t == 2 {
+        if t == THREAD {
             return 1;
         }
-        if t == 5 {
-            return 65;
+        if t == DATA {
+            return DATA_BLOCKS;
         }
         return 0;
     }
-    if 1 < t {
+    if SPACE < t {
         return 1;
     }
     0
 }
 
-fn no_sums() -> [u32; 256]
-    ensures { λ r. ⌜ (length r ≡ 256) × ((x : ℕ) → getD r x 0 ≡ 0) ⌝ }
+fn no_sums() -> [u32; SUMS]
+    ensures { λ r. ⌜ (length r ≡ mostPages) × ((x : ℕ) → getD r x 0 ≡ 0) ⌝ }
 {
-    [0u32; 256]
+    [0u32; SUMS]
 }
 
 // The sum for each owner, by one pass.
-fn tallies(n: u32, led: &[u32], blocks: bool) -> [u32; 256]
+fn tallies(n: u32, led: &[u32], blocks: bool) -> [u32; SUMS]
     requires { ⌜ n ≤ mostPages ⌝ }
     ensures { λ r. ⌜ Tallied (weight blocks) (rec (now (led .entry))) n r ⌝ }
 {
     let mut c = no_sums();
     let mut p: u32 = 0;
     while p < n {
-        let k = weigh(blocks, word(led, p, 0));
-        let a = word(led, p, 1);
-        if a < 256 {
+        let k = weigh(blocks, word(led, p, TYPE));
+        let a = word(led, p, OWNER);
+        if a < MOST_PAGES {
             c[a as usize] += k;
         }
         p += 1;
@@ -54,22 +70,22 @@ fn tallies(n: u32, led: &[u32], blocks: bool) -> [u32; 256]
 // If a is a space, are its counts these?
 fn count_ok(n: u32, led: &[u32], a: u32, owned: u32, blocks: u32) -> bool
     requires { ⌜ n ≤ mostPages ⌝ }
-    ensures { λ r. ⌜ Says r (rec (now (led .entry)) a 0 ≡ space → Count n (rec (now (led .entry))) a owned blocks) ⌝ }
+    ensures { λ r. ⌜ Says r (rec (now (led .entry)) a typeWord ≡ space → Count n (rec (now (led .entry))) a owned blocks) ⌝ }
 {
-    if word(led, a, 0) != 1 {
+    if word(led, a, TYPE) != SPACE {
         return true;
     }
-    if word(led, a, 4) != owned {
+    if word(led, a, COUNT) != owned {
         return false;
     }
-    let measured = word(led, a, 5);
-    if word(led, a, 3) == 0 {
+    let measured = word(led, a, BLOCKS);
+    if word(led, a, STATE) == BUILDING {
         if measured != blocks {
             return false;
         }
         return true;
     }
-    if 65 * n < measured {
+    if DATA_BLOCKS * n < measured {
         return false;
     }
     true

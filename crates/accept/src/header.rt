@@ -1,22 +1,36 @@
 // The header: who runs, the free map, and the words after it.
 
+use ledger::FINAL;
+use ledger::FREE;
+use ledger::OWNER;
+use ledger::RUNNING;
+use ledger::STATE;
+use ledger::SUSPENDED;
+use ledger::THREAD;
+use ledger::TYPE;
 use ledger::header_word;
 use ledger::word;
 use machine::HEADER_WORDS;
+use machine::MAP_END;
+use machine::MAP_START;
+use machine::MAP_WORDS;
 use machine::Machine;
-use memory::all_zero;
+use words::WORD_BITS;
+use words::all_zero;
 ghost use mathlib.Core.Path.{_≡_};
 ghost use Prim.Native.Nat.{ℕ, _+_, _<_, _≤_};
 ghost use lib.ListN.{length};
-ghost use Rattle.machine.specs.Machine.{headerWords, Says};
-ghost use Rattle.ledger.specs.Ledger.{mapWords, mapStart, runningWord, header, rec};
+ghost use Rattle.words.specs.Words.{Says};
+ghost use Rattle.machine.specs.Machine.{headerWords, mapWords, mapStart};
+ghost use Rattle.ledger.specs.Names.{runningWord};
+ghost use Rattle.ledger.specs.Ledger.{header, rec};
 ghost use Rattle.accept.specs.Accept.{Runs, HeaderOk, isFree, mapWord};
 
 // Does nobody run, or a thread that may?
 fn running_ok(b: Machine, led: &[u32]) -> bool
     ensures { λ r. ⌜ Says r ((t : ℕ) → header (now (led .entry)) runningWord ≡ t + 1 → Runs b (rec (now (led .entry))) t) ⌝ }
 {
-    let v = header_word(led, 0);
+    let v = header_word(led, RUNNING);
     if v == 0 {
         return true;
     }
@@ -24,13 +38,13 @@ fn running_ok(b: Machine, led: &[u32]) -> bool
     if b.pages <= t {
         return false;
     }
-    if word(led, t, 0) != 2 {
+    if word(led, t, TYPE) != THREAD {
         return false;
     }
-    if word(led, t, 3) != 0 {
+    if word(led, t, SUSPENDED) != 0 {
         return false;
     }
-    if word(led, word(led, t, 1), 3) != 1 {
+    if word(led, word(led, t, OWNER), STATE) != FINAL {
         return false;
     }
     true
@@ -43,7 +57,7 @@ fn free_bit(n: u32, led: &[u32], p: u32) -> u32
     if n <= p {
         return 0;
     }
-    if word(led, p, 0) != 0 {
+    if word(led, p, TYPE) != FREE {
         return 0;
     }
     1
@@ -56,8 +70,8 @@ fn map_word(n: u32, led: &[u32], j: u32) -> u32
 {
     let mut sum: u32 = 0;
     let mut i: u32 = 0;
-    while i < 32 {
-        sum += free_bit(n, led, 32 * j + i) << i;
+    while i < WORD_BITS {
+        sum += free_bit(n, led, WORD_BITS * j + i) << i;
         i += 1;
     }
     sum
@@ -68,8 +82,8 @@ fn map_ok(n: u32, led: &[u32]) -> bool
     ensures { λ r. ⌜ Says r ((j : ℕ) → j < mapWords → header (now (led .entry)) (mapStart + j) ≡ mapWord n (rec (now (led .entry))) j) ⌝ }
 {
     let mut j: u32 = 0;
-    while j < 8 {
-        if header_word(led, 9 + (j as usize)) != map_word(n, led, j) {
+    while (j as usize) < MAP_WORDS {
+        if header_word(led, MAP_START + (j as usize)) != map_word(n, led, j) {
             return false;
         }
         j += 1;
@@ -87,5 +101,5 @@ pub fn header_ok(b: Machine, led: &[u32]) -> bool
     if !map_ok(b.pages, led) {
         return false;
     }
-    all_zero(&led[0..HEADER_WORDS], 17)
+    all_zero(&led[0..HEADER_WORDS], MAP_END)
 }

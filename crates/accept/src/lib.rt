@@ -8,30 +8,13 @@ mod pages;
 
 use counts::counts_ok;
 use header::header_ok;
-use machine::FRAME_WORDS;
-use machine::HEADER_WORDS;
 use machine::Machine;
-use machine::RECORD_WORDS;
+use machine::lent;
 use pages::pages_ok;
-ghost use Rattle.machine.specs.Machine.{Says, Lent};
+ghost use Rattle.words.specs.Words.{Says};
 ghost use Rattle.accept.specs.Accept.{Accepted};
 
-// Do the machine numbers fit, and are the memory and the ledger as long as they say?
-fn lent(b: Machine, mem: &[u32], led: &[u32]) -> bool
-    ensures { λ r. ⌜ Says r (Lent b (now (mem .entry)) (now (led .entry))) ⌝ }
-{
-    if !machine::fits(b) {
-        return false;
-    }
-    if mem.len() != FRAME_WORDS * (b.frames as usize) {
-        return false;
-    }
-    if led.len() != HEADER_WORDS + RECORD_WORDS * (b.pages as usize) {
-        return false;
-    }
-    true
-}
-
+// Is what is lent as it should be?
 pub fn accepts(b: Machine, mem: &[u32], led: &[u32]) -> bool
     ensures { λ r. ⌜ Says r (Accepted b (now (mem .entry)) (now (led .entry))) ⌝ }
 {

@@ -1,17 +1,32 @@
 // The tables of a space that is not stopped, page by page: what a first-level page, a second-level table and a data page must hold.
 
+use ledger::DATA;
+use ledger::FIRST;
+use ledger::INDEX;
+use ledger::OWNER;
+use ledger::SECOND_LEVEL;
+use ledger::TYPE;
 use ledger::mapping_word;
 use ledger::word;
 use machine::FRAME_WORDS;
 use machine::Machine;
 use machine::insecure;
-use memory::all_zero;
+use mapping::ALL_RIGHTS;
+use mapping::EXECUTE;
+use mapping::MOST_TABLES;
+use mapping::PAGE_BYTES;
+use mapping::SLOTS;
+use mapping::TABLE_BYTES;
 use walk::slot_word;
+use words::all_zero;
 ghost use mathlib.Core.Path.{_≡_};
 ghost use Prim.Native.Nat.{ℕ, _+_, _*_, _<_, _≤_};
 ghost use lib.ListN.{length, getD};
-ghost use Rattle.machine.specs.Machine.{frameWords, Says};
+ghost use Rattle.words.specs.Words.{Says};
+ghost use Rattle.machine.specs.Machine.{frameWords};
+ghost use Rattle.mapping.specs.Mapping.{allRights, mostTables};
 ghost use Rattle.ledger.specs.Ledger.{rec};
+ghost use Rattle.ledger.specs.Names.{indexWord};
 ghost use Rattle.memory.specs.Memory.{frame, wordsOf};
 ghost use Rattle.accept.specs.Accept.{Is, SlotOk};
 ghost use Rattle.accept.specs.Checks.{Here, Names, Inside, FirstLinks, SecondLinks, Reached};
@@ -40,10 +55,10 @@ pub fn is_page(b: Machine, led: &[u32], a: u32, t: u32, q: u32) -> bool
     if b.pages <= q {
         return false;
     }
-    if word(led, q, 0) != t {
+    if word(led, q, TYPE) != t {
         return false;
     }
-    if word(led, q, 1) != a {
+    if word(led, q, OWNER) != a {
         return false;
     }
     true
@@ -57,22 +72,22 @@ fn slot_names(b: Machine, led: &[u32], a: u32, i: u32, v: u32) -> bool
         return true;
     }
     let t = v - 1;
-    if !is_page(b, led, a, 4, t) {
+    if !is_page(b, led, a, SECOND_LEVEL, t) {
         return false;
     }
-    if word(led, t, 2) != i {
+    if word(led, t, INDEX) != i {
         return false;
     }
     true
 }
 
-// May all 256 of them?
+// May all of them?
 fn slots_name(b: Machine, led: &[u32], a: u32, page: &[u32]) -> bool
     requires { ⌜ length (now page) ≡ frameWords ⌝ }
-    ensures { λ r. ⌜ Says r ((i : ℕ) → i < 256 → Names b (rec (now (led .entry))) a i (getD (now (page .entry)) i 0)) ⌝ }
+    ensures { λ r. ⌜ Says r ((i : ℕ) → i < mostTables → Names b (rec (now (led .entry))) a i (getD (now (page .entry)) i 0)) ⌝ }
 {
     let mut i: u32 = 0;
-    while i < 256 {
+    while i < MOST_TABLES {
         if !slot_names(b, led, a, i, page[i as usize]) {
             return false;
         }
@@ -83,17 +98,17 @@ fn slots_name(b: Machine, led: &[u32], a: u32, page: &[u32]) -> bool
 
 // Is frame f that of a data page of a's whose mapping word is address (i, j) with these rights?
 fn inside(b: Machine, led: &[u32], a: u32, i: u32, j: u32, f: u32, rights: u32) -> bool
-    requires { ⌜ (i < 256) × (j < frameWords) × (rights < 8) ⌝ }
+    requires { ⌜ (i < mostTables) × (j < frameWords) × (rights < allRights) ⌝ }
     ensures { λ r. ⌜ Says r (Inside b (rec (now (led .entry))) a i j f rights) ⌝ }
 {
     if f < b.secure {
         return false;
     }
     let d = f - b.secure;
-    if !is_page(b, led, a, 5, d) {
+    if !is_page(b, led, a, DATA, d) {
         return false;
     }
-    if mapping_word(led, d).0 != i * 4194304 + j * 4096 + rights {
+    if mapping_word(led, d).0 != i * TABLE_BYTES + j * PAGE_BYTES + rights {
         return false;
     }
     true
@@ -101,22 +116,22 @@ fn inside(b: Machine, led: &[u32], a: u32, i: u32, j: u32, f: u32, rights: u32) 
 
 // May slot j of a's table with index i hold this: zero, an insecure frame without the execute right, or such a data page?
 fn slot_ok(b: Machine, led: &[u32], a: u32, i: u32, j: u32, held: u32) -> bool
-    requires { ⌜ (i < 256) × (j < frameWords) ⌝ }
+    requires { ⌜ (i < mostTables) × (j < frameWords) ⌝ }
     ensures { λ r. ⌜ Says r (SlotOk b (rec (now (led .entry))) a i j held) ⌝ }
 {
     if held == 0 {
         return true;
     }
-    let rights = held % 4096;
-    let f = held / 4096;
-    if 8 <= rights {
+    let rights = held % PAGE_BYTES;
+    let f = held / PAGE_BYTES;
+    if ALL_RIGHTS <= rights {
         return false;
     }
     if rights % 2 != 1 {
         return false;
     }
     if insecure(b, f) {
-        if 4 <= rights {
+        if EXECUTE <= rights {
             return false;
         }
         return true;
@@ -124,13 +139,13 @@ fn slot_ok(b: Machine, led: &[u32], a: u32, i: u32, j: u32, held: u32) -> bool
     inside(b, led, a, i, j, f, rights)
 }
 
-// May all 1,024 of them?
+// May all of them?
 fn slots_ok(b: Machine, led: &[u32], a: u32, i: u32, page: &[u32]) -> bool
-    requires { ⌜ (i < 256) × (length (now page) ≡ frameWords) ⌝ }
+    requires { ⌜ (i < mostTables) × (length (now page) ≡ frameWords) ⌝ }
     ensures { λ r. ⌜ Says r ((j : ℕ) → j < frameWords → SlotOk b (rec (now (led .entry))) a i j (getD (now (page .entry)) j 0)) ⌝ }
 {
     let mut j: u32 = 0;
-    while j < 1024 {
+    while j < SLOTS {
         if !slot_ok(b, led, a, i, j, page[j as usize]) {
             return false;
         }
@@ -144,24 +159,24 @@ pub fn first_links(b: Machine, mem: &[u32], led: &[u32], a: u32, p: u32) -> bool
     requires { ⌜ Here b (now mem) (now led) p ⌝ }
     ensures { λ r. ⌜ Says r (FirstLinks b (rec (now (led .entry))) (frame (now (mem .entry))) a p) ⌝ }
 {
-    if word(led, a, 2) != p {
+    if word(led, a, FIRST) != p {
         return false;
     }
     let page = page_words(b, mem, p);
     if !slots_name(b, led, a, page) {
         return false;
     }
-    all_zero(page, 256)
+    all_zero(page, MOST_TABLES as usize)
 }
 
 // Does a's first-level page name table p, and are the table's slots as they should?
 pub fn second_links(b: Machine, mem: &[u32], led: &[u32], a: u32, p: u32) -> bool
     requires { ⌜ Here b (now mem) (now led) p ⌝ }
-    requires { ⌜ rec (now led) p 2 < 256 ⌝ }
+    requires { ⌜ rec (now led) p indexWord < mostTables ⌝ }
     ensures { λ r. ⌜ Says r (SecondLinks b (rec (now (led .entry))) (frame (now (mem .entry))) a p) ⌝ }
 {
-    let i = word(led, p, 2);
-    if page_word(b, mem, word(led, a, 2), i) != p + 1 {
+    let i = word(led, p, INDEX);
+    if page_word(b, mem, word(led, a, FIRST), i) != p + 1 {
         return false;
     }
     slots_ok(b, led, a, i, page_words(b, mem, p))
@@ -173,7 +188,7 @@ pub fn reached(b: Machine, mem: &[u32], led: &[u32], a: u32, d: u32) -> bool
     ensures { λ r. ⌜ Says r (Reached b (rec (now (led .entry))) (frame (now (mem .entry))) a d) ⌝ }
 {
     let map = mapping_word(led, d);
-    let v = page_word(b, mem, word(led, a, 2), map.index());
+    let v = page_word(b, mem, word(led, a, FIRST), map.index());
     if v == 0 {
         return false;
     }

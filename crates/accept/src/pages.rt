@@ -5,19 +5,47 @@ use crate::links::is_page;
 use crate::links::page_words;
 use crate::links::reached;
 use crate::links::second_links;
+use ledger::BUILDING;
+use ledger::DATA;
+use ledger::FIRST;
+use ledger::FIRST_LEVEL;
+use ledger::FLAGS;
+use ledger::FREE;
+use ledger::FREE_END;
+use ledger::INDEX;
+use ledger::NAMED_END;
+use ledger::OWNED_END;
+use ledger::OWNER;
+use ledger::REGISTERS;
+use ledger::SECOND_LEVEL;
+use ledger::SPACE;
+use ledger::SPACE_END;
+use ledger::SPARE;
+use ledger::STATE;
+use ledger::STOPPED;
+use ledger::SUSPENDED;
+use ledger::THREAD;
+use ledger::THREAD_END;
+use ledger::TYPE;
 use ledger::mapping_word;
 use ledger::word;
 use machine::HEADER_WORDS;
 use machine::Machine;
-use machine::RECORD_WORDS;
-use memory::all_zero;
+use mapping::MOST_TABLES;
+use words::RECORD_WORDS;
+use words::all_zero;
 ghost use Prim.Native.Nat.{_+_, _*_, _≤_};
 ghost use lib.ListN.{length};
-ghost use Rattle.machine.specs.Machine.{frameWords, headerWords, recordWords, Says, Lent};
+ghost use Rattle.words.specs.Words.{recordWords, Says};
+ghost use Rattle.machine.specs.Machine.{frameWords, headerWords, Lent};
 ghost use Rattle.ledger.specs.Ledger.{rec};
+ghost use Rattle.ledger.specs.Names.{threadEnd, typeWord};
 ghost use Rattle.memory.specs.Memory.{frame};
 ghost use Rattle.accept.specs.Accept.{Zeros, SpaceRec};
 ghost use Rattle.accept.specs.Checks.{Here, Wiped, Owned, FreePage, SpacePage, ThreadRules, ThreadPage, FirstPage, SecondPage, DataPage, SparePage, Page, Pages};
+
+// The lowest of the four flags that are kept.
+const FLAG: u32 = 268435456;
 
 // Are words lo to hi - 1 of page p's record zero?
 fn zeros(led: &[u32], p: u32, lo: usize, hi: usize) -> bool
@@ -42,11 +70,11 @@ fn owned(b: Machine, led: &[u32], lo: usize, p: u32) -> bool
     requires { ⌜ headerWords + recordWords * p + recordWords ≤ length (now led) ⌝ }
     ensures { λ r. ⌜ Says r (Owned b (rec (now (led .entry))) lo p) ⌝ }
 {
-    let a = word(led, p, 1);
+    let a = word(led, p, OWNER);
     if b.pages <= a {
         return false;
     }
-    if word(led, a, 0) != 1 {
+    if word(led, a, TYPE) != SPACE {
         return false;
     }
     zeros(led, p, lo, RECORD_WORDS)
@@ -58,7 +86,7 @@ fn free_page(b: Machine, mem: &[u32], led: &[u32], p: u32) -> bool
     requires { ⌜ Here b (now mem) (now led) p ⌝ }
     ensures { λ r. ⌜ Says r (FreePage b (rec (now (led .entry))) (frame (now (mem .entry))) p) ⌝ }
 {
-    if !zeros(led, p, 1, RECORD_WORDS) {
+    if !zeros(led, p, FREE_END, RECORD_WORDS) {
         return false;
     }
     wiped(b, mem, p)
@@ -69,16 +97,16 @@ fn space_record(b: Machine, led: &[u32], p: u32) -> bool
     requires { ⌜ headerWords + recordWords * p + recordWords ≤ length (now led) ⌝ }
     ensures { λ r. ⌜ Says r (SpaceRec (b .pages) p (rec (now (led .entry)) p)) ⌝ }
 {
-    if word(led, p, 1) != p {
+    if word(led, p, OWNER) != p {
         return false;
     }
-    if b.pages <= word(led, p, 2) {
+    if b.pages <= word(led, p, FIRST) {
         return false;
     }
-    if 2 < word(led, p, 3) {
+    if STOPPED < word(led, p, STATE) {
         return false;
     }
-    zeros(led, p, 14, RECORD_WORDS)
+    zeros(led, p, SPACE_END, RECORD_WORDS)
 }
 
 fn space_page(b: Machine, mem: &[u32], led: &[u32], p: u32) -> bool
@@ -91,29 +119,29 @@ fn space_page(b: Machine, mem: &[u32], led: &[u32], p: u32) -> bool
     if !wiped(b, mem, p) {
         return false;
     }
-    if word(led, p, 3) == 2 {
+    if word(led, p, STATE) == STOPPED {
         return true;
     }
-    is_page(b, led, p, 3, word(led, p, 2))
+    is_page(b, led, p, FIRST_LEVEL, word(led, p, FIRST))
 }
 
-// Of a thread whose words from 21 on are zero: are its registers zero unless it is suspended, and is its owner not building if it is?
+// Of a thread whose words after the flags are zero: are its registers zero unless it is suspended, and is its owner not building if it is?
 fn thread_rules(led: &[u32], p: u32) -> bool
     requires { ⌜ headerWords + recordWords * p + recordWords ≤ length (now led) ⌝ }
-    requires { ⌜ Zeros (rec (now led) p) 21 recordWords ⌝ }
+    requires { ⌜ Zeros (rec (now led) p) threadEnd recordWords ⌝ }
     ensures { λ r. ⌜ Says r (ThreadRules (rec (now (led .entry))) p) ⌝ }
 {
-    if word(led, p, 20) % 268435456 != 0 {
+    if word(led, p, FLAGS) % FLAG != 0 {
         return false;
     }
-    let suspended = word(led, p, 3);
+    let suspended = word(led, p, SUSPENDED);
     if suspended == 0 {
-        return zeros(led, p, 4, 21);
+        return zeros(led, p, REGISTERS, THREAD_END);
     }
     if suspended != 1 {
         return false;
     }
-    if word(led, word(led, p, 1), 3) == 0 {
+    if word(led, word(led, p, OWNER), STATE) == BUILDING {
         return false;
     }
     true
@@ -123,7 +151,7 @@ fn thread_page(b: Machine, mem: &[u32], led: &[u32], p: u32) -> bool
     requires { ⌜ Here b (now mem) (now led) p ⌝ }
     ensures { λ r. ⌜ Says r (ThreadPage b (rec (now (led .entry))) (frame (now (mem .entry))) p) ⌝ }
 {
-    if !owned(b, led, 21, p) {
+    if !owned(b, led, THREAD_END, p) {
         return false;
     }
     if !thread_rules(led, p) {
@@ -136,11 +164,11 @@ fn first_page(b: Machine, mem: &[u32], led: &[u32], p: u32) -> bool
     requires { ⌜ Here b (now mem) (now led) p ⌝ }
     ensures { λ r. ⌜ Says r (FirstPage b (rec (now (led .entry))) (frame (now (mem .entry))) p) ⌝ }
 {
-    if !owned(b, led, 2, p) {
+    if !owned(b, led, OWNED_END, p) {
         return false;
     }
-    let a = word(led, p, 1);
-    if word(led, a, 3) == 2 {
+    let a = word(led, p, OWNER);
+    if word(led, a, STATE) == STOPPED {
         return true;
     }
     first_links(b, mem, led, a, p)
@@ -150,14 +178,14 @@ fn second_page(b: Machine, mem: &[u32], led: &[u32], p: u32) -> bool
     requires { ⌜ Here b (now mem) (now led) p ⌝ }
     ensures { λ r. ⌜ Says r (SecondPage b (rec (now (led .entry))) (frame (now (mem .entry))) p) ⌝ }
 {
-    if !owned(b, led, 3, p) {
+    if !owned(b, led, NAMED_END, p) {
         return false;
     }
-    if 256 <= word(led, p, 2) {
+    if MOST_TABLES <= word(led, p, INDEX) {
         return false;
     }
-    let a = word(led, p, 1);
-    if word(led, a, 3) == 2 {
+    let a = word(led, p, OWNER);
+    if word(led, a, STATE) == STOPPED {
         return true;
     }
     second_links(b, mem, led, a, p)
@@ -167,14 +195,14 @@ fn data_page(b: Machine, mem: &[u32], led: &[u32], p: u32) -> bool
     requires { ⌜ Here b (now mem) (now led) p ⌝ }
     ensures { λ r. ⌜ Says r (DataPage b (rec (now (led .entry))) (frame (now (mem .entry))) p) ⌝ }
 {
-    if !owned(b, led, 3, p) {
+    if !owned(b, led, NAMED_END, p) {
         return false;
     }
     if !mapping_word(led, p).well_formed() {
         return false;
     }
-    let a = word(led, p, 1);
-    if word(led, a, 3) == 2 {
+    let a = word(led, p, OWNER);
+    if word(led, a, STATE) == STOPPED {
         return true;
     }
     reached(b, mem, led, a, p)
@@ -184,7 +212,7 @@ fn spare_page(b: Machine, mem: &[u32], led: &[u32], p: u32) -> bool
     requires { ⌜ Here b (now mem) (now led) p ⌝ }
     ensures { λ r. ⌜ Says r (SparePage b (rec (now (led .entry))) (frame (now (mem .entry))) p) ⌝ }
 {
-    if !owned(b, led, 2, p) {
+    if !owned(b, led, OWNED_END, p) {
         return false;
     }
     wiped(b, mem, p)
@@ -193,17 +221,17 @@ fn spare_page(b: Machine, mem: &[u32], led: &[u32], p: u32) -> bool
 // Is page p what its type asks?
 fn page_ok(b: Machine, mem: &[u32], led: &[u32], p: u32) -> bool
     requires { ⌜ Here b (now mem) (now led) p ⌝ }
-    ensures { λ r. ⌜ Says r (Page b (rec (now (led .entry))) (frame (now (mem .entry))) p (rec (now (led .entry)) p 0)) ⌝ }
+    ensures { λ r. ⌜ Says r (Page b (rec (now (led .entry))) (frame (now (mem .entry))) p (rec (now (led .entry)) p typeWord)) ⌝ }
 {
-    let t = word(led, p, 0);
+    let t = word(led, p, TYPE);
     match t {
-        0 => free_page(b, mem, led, p),
-        1 => space_page(b, mem, led, p),
-        2 => thread_page(b, mem, led, p),
-        3 => first_page(b, mem, led, p),
-        4 => second_page(b, mem, led, p),
-        5 => data_page(b, mem, led, p),
-        6 => spare_page(b, mem, led, p),
+        FREE => free_page(b, mem, led, p),
+        SPACE => space_page(b, mem, led, p),
+        THREAD => thread_page(b, mem, led, p),
+        FIRST_LEVEL => first_page(b, mem, led, p),
+        SECOND_LEVEL => second_page(b, mem, led, p),
+        DATA => data_page(b, mem, led, p),
+        SPARE => spare_page(b, mem, led, p),
         _ => false,
     }
 }

@@ -1,13 +1,56 @@
 // What the calls share: the answer, the registers, and the refusals that several calls have.
 
+mod refusals;
+
+use ledger::BUILDING;
+use ledger::FREE;
+use ledger::HASH_WORDS;
+use ledger::OWNER;
+use ledger::RUNNING;
+use ledger::SPACE;
+use ledger::STATE;
+use ledger::TYPE;
 use ledger::header_word;
 use ledger::word;
 use machine::Machine;
+use mapping::MOST_TABLES;
+use mapping::Mapping;
+pub use refusals::ALREADY_FREE;
+pub use refusals::BAD_RECORD;
+pub use refusals::FAULTED;
+pub use refusals::ILL_FITTING;
+pub use refusals::ILL_FORMED;
+pub use refusals::INTERRUPTED;
+pub use refusals::IS_SUSPENDED;
+pub use refusals::NO_SUCH_INDEX;
+pub use refusals::NO_SUCH_PAGE;
+pub use refusals::NO_TABLE;
+pub use refusals::NOT_FREE;
+pub use refusals::NOT_INSECURE;
+pub use refusals::NOT_OWN_DATA;
+pub use refusals::NOT_OWN_SPARE;
+pub use refusals::NOT_SPACE;
+pub use refusals::NOT_STOPPED;
+pub use refusals::NOT_SUSPENDED;
+pub use refusals::NOT_THREAD;
+pub use refusals::OWNER_NOT_FINAL;
+pub use refusals::SLOT_TAKEN;
+pub use refusals::STILL_OWNS;
+pub use refusals::WRONG_STATE;
+pub use refusals::WRONG_TIME;
+use walk::LEVELS;
+use walk::Walked;
+use walk::frame_of;
+use walk::walk;
+use words::either;
+use words::refuse;
 ghost use mathlib.Core.Path.{_≡_};
 ghost use lib.ListN.{length};
-ghost use Rattle.answer.specs.Answer.{registers, macWords, when, or, asCode, pgCode, buildingCode, running, owner};
+ghost use Rattle.answer.specs.Answer.{registers, macWords, asCode, pgCode, buildingCode, addrCode, indexCode, running, owner};
 
-// r0 to r15 and the flags.
+// The words of a thread's registers: r0 to r15 and the flags.
+pub const REGS: usize = 17;
+
 pub struct Regs {
     pub r0: u32,
     pub r1: u32,
@@ -79,7 +122,7 @@ impl Regs {
     }
 
     // To seventeen words.
-    pub fn words(self) -> [u32; 17]
+    pub fn words(self) -> [u32; REGS]
         ensures { λ r. ⌜ r ≡ registers self ⌝ }
     {
         [
@@ -105,7 +148,7 @@ impl Regs {
 }
 
 impl Mac {
-    pub fn of(h: [u32; 8]) -> Mac
+    pub fn of(h: [u32; HASH_WORDS]) -> Mac
         ensures { λ r. ⌜ macWords r ≡ h ⌝ }
     {
         Mac {
@@ -120,7 +163,7 @@ impl Mac {
         }
     }
 
-    pub fn words(self) -> [u32; 8]
+    pub fn words(self) -> [u32; HASH_WORDS]
         ensures { λ r. ⌜ r ≡ macWords self ⌝ }
     {
         [
@@ -136,46 +179,67 @@ impl Mac {
     }
 }
 
-// A refusal: its number where the test holds, else 0.
-pub fn refuse(test: bool, code: u32) -> u32
-    ensures { λ r. ⌜ r ≡ when test code ⌝ }
-{
-    if test { code } else { 0 }
-}
-
-// The first refusal of two.
-pub fn either(c: u32, d: u32) -> u32
-    ensures { λ r. ⌜ r ≡ or c d ⌝ }
-{
-    if c != 0 { c } else { d }
-}
-
 // AS.
 pub fn space_code(b: Machine, led: &[u32], a: u32) -> u32
     ensures { λ r. ⌜ r ≡ asCode b (now (led .entry)) a ⌝ }
 {
-    either(refuse(b.pages <= a, 1), refuse(word(led, a, 0) != 1, 3))
+    either(
+        refuse(b.pages <= a, NO_SUCH_PAGE),
+        refuse(word(led, a, TYPE) != SPACE, NOT_SPACE),
+    )
 }
 
 // PG.
 pub fn page_code(b: Machine, led: &[u32], p: u32) -> u32
     ensures { λ r. ⌜ r ≡ pgCode b (now (led .entry)) p ⌝ }
 {
-    either(refuse(b.pages <= p, 1), refuse(word(led, p, 0) != 0, 2))
+    either(
+        refuse(b.pages <= p, NO_SUCH_PAGE),
+        refuse(word(led, p, TYPE) != FREE, NOT_FREE),
+    )
 }
 
 // AS, and 4 where the space is not building.
 pub fn building_code(b: Machine, led: &[u32], a: u32) -> u32
     ensures { λ r. ⌜ r ≡ buildingCode b (now (led .entry)) a ⌝ }
 {
-    either(space_code(b, led, a), refuse(word(led, a, 3) != 0, 4))
+    either(
+        space_code(b, led, a),
+        refuse(word(led, a, STATE) != BUILDING, WRONG_STATE),
+    )
+}
+
+// ADDR.
+pub fn addr_code(mem: &[u32], s: u32, first: u32, map: Mapping) -> u32
+    ensures { λ r. ⌜ r ≡ addrCode (now (mem .entry)) s first (map .0) ⌝ }
+{
+    let Walked::At(_, v) = walk(mem, s, first, map.0, LEVELS) else {
+        return NO_TABLE;
+    };
+    if v == 0 {
+        return 0;
+    }
+    SLOT_TAKEN
+}
+
+// The index of a table, and its slot in the first-level page.
+pub fn index_code(mem: &[u32], s: u32, f: u32, i: u32) -> u32
+    ensures { λ r. ⌜ r ≡ indexCode (now (mem .entry)) s f i ⌝ }
+{
+    if MOST_TABLES <= i {
+        return NO_SUCH_INDEX;
+    }
+    if memory::word(mem, frame_of(s, f), i as usize) == 0 {
+        return 0;
+    }
+    SLOT_TAKEN
 }
 
 // The running thread's page. (0 where none runs, of which nobody asks.)
 pub fn running_page(led: &[u32]) -> u32
     ensures { λ r. ⌜ r ≡ running (now (led .entry)) ⌝ }
 {
-    let w = header_word(led, 0);
+    let w = header_word(led, RUNNING);
     if w == 0 {
         return 0;
     }
@@ -186,5 +250,5 @@ pub fn running_page(led: &[u32]) -> u32
 pub fn running_owner(led: &[u32]) -> u32
     ensures { λ r. ⌜ r ≡ owner (now (led .entry)) ⌝ }
 {
-    word(led, running_page(led), 1)
+    word(led, running_page(led), OWNER)
 }

@@ -7,8 +7,8 @@ use native.Mathlib.Omega.{arith}
 use lib.ListN.{length, replicate, length-replicate}
 use Rattle.machine.specs.Machine.{Fits}
 use Rattle.accept.specs.Accept.{Accepted}
-use Rattle.monitor.specs.Boot.{freshLedger, freshMemory}
-use Rattle.monitor.proofs.Fresh.{fresh-accepted}
+use Rattle.boot.specs.Boot.{freshLedger, freshMemory}
+use Rattle.boot.proofs.Fresh.{fresh-accepted}
 use Rattle.box_a.specs.Shift.{boxA}
 
 fits : Fits boxA

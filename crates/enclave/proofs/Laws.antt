@@ -4,15 +4,18 @@ use mathlib.Core.Path.{_≡_}
 use mathlib.Core.Bool.{true, false, not}
 use mathlib.Core.List.{List}
 use lib.Dec.{leb, eqb}
+use Rattle.words.specs.Words.{when, or}
+use Rattle.words.proofs.Codes.{or-none, passes-not, in-range, is}
 use Rattle.machine.specs.declared.Machine.{Machine}
 use Rattle.mapping.specs.Mapping.{wellFormed}
-use Rattle.ledger.specs.Ledger.{dataPage, spare, rec}
+use Rattle.ledger.specs.Names.{dataPage, spare}
+use Rattle.ledger.specs.Ledger.{rec}
 use Rattle.memory.specs.Memory.{frame, putWord}
 use Rattle.walk.specs.Walk.{translate, frameOf, wordOf}
 use Rattle.walk.specs.declared.Translated.the-variants.{Yes, No}
-use Rattle.walk.proofs.Laws.{Holds, passes-addr, passes-index}
-use Rattle.answer.specs.Answer.{done, gives, when, or, owner}
-use Rattle.answer.proofs.Laws.{or-none, passes-not, in-range, is}
+use Rattle.walk.proofs.Laws.{Holds}
+use Rattle.answer.specs.Answer.{done, gives, owner}
+use Rattle.answer.proofs.Laws.{passes-addr, passes-index}
 use Rattle.enclave.specs.Calls.{firstPage, ownSpareCode, spareTableCode, mapDataCode, unmapDataCode, fault, load, store}
 
 module _ (b : Machine) (L : List ℕ) (p : ℕ) where

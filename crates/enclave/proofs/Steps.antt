@@ -9,19 +9,23 @@ use lib.Dec.{eqb}
 use lib.ListN.{length, getD, take, drop, drop-of-length-le}
 use lib.Seq.{drop-cons}
 use borrow.Author.Tests.{eq-eqb, ne-eqb}
+use Rattle.words.specs.Words.{padded}
+use Rattle.words.proofs.Lists.{listed, listed-all}
 use Rattle.machine.specs.declared.Machine.{Machine}
 use Rattle.machine.specs.Machine.{frameWords, Lent}
-use Rattle.ledger.specs.Ledger.{secondLevel, dataPage, spare, rec, padded, puts, anew, run}
+use Rattle.ledger.specs.Names.{secondLevel, dataPage, spare}
+use Rattle.ledger.specs.Ledger.{rec, hash, eight, puts, anew, run}
 use Rattle.memory.specs.Memory.{frame, putWord, wiped}
 use Rattle.walk.specs.Walk.{translate, filled, mapped, linked, frameOf, wordOf}
 use Rattle.walk.specs.declared.Translated.{Translated}
 use Rattle.walk.specs.declared.Translated.the-variants.{Yes, No}
 use Rattle.walk.proofs.Laws.{length-filled}
 use Rattle.answer.specs.declared.Regs.{Regs}
-use Rattle.answer.specs.declared.Answer.the-variants.{Done, Value, Interrupted}
-use Rattle.answer.specs.Answer.{Out, done, gives, registers, numbers, running, owner}
-use Rattle.answer.proofs.Laws.{did, listed, listed-all}
-use Rattle.enclave.specs.Calls.{firstPage, mac, sameWords, verify, spareTableCode, spareTable, mapDataCode, mapData, unmapDataCode, unmapData, topFour, interrupt, fault, load, store}
+use Rattle.answer.specs.declared.Mac.{Mac}
+use Rattle.answer.specs.declared.Answer.the-variants.{Done, Value, Attested, Interrupted}
+use Rattle.answer.specs.Answer.{Out, done, gives, registers, numbers, running, owner, macOf, macWords}
+use Rattle.answer.proofs.Laws.{did, attested}
+use Rattle.enclave.specs.Calls.{firstPage, mac, attest, sameWords, verify, spareTableCode, spareTable, mapDataCode, mapData, unmapDataCode, unmapData, topFour, interrupt, fault, load, store}
 use Rattle.enclave.proofs.Laws.{passes-spare-table, passes-map-data, passes-unmap-data, load-no, load-yes, store-no, store-yes}
 
 -- ---- eight words and eight more, each read by its index
@@ -46,14 +50,23 @@ module _ (same : Bool) (xs ys : List ℕ) (i : ℕ) (e : (same && sameWords (dro
   unfolding sameWords
   same-all lx ly = sym (and-true same) ∙ (rw (drop-of-length-le xs {i = i} lx, drop-of-length-le ys {i = i} ly) at e)
 
--- ---- a MAC tested
+-- ---- a MAC given, and a MAC tested
+eight-words : (L measurement text : List ℕ) → macWords (macOf (mac L measurement text)) ≡ mac L measurement text
+unfolding mac eight
+eight-words L measurement text = refl
+
+pub mac-given : {m : Mac} {h w : List ℕ} (M L text : List ℕ) {a : ℕ} → a ≡ owner L → h ≡ hash L a → w ≡ mac L h text → macWords m ≡ w
+    → record { ans = numbers (Attested m); mem = M; led = L } ≡ attest M L text
+unfolding attest
+mac-given M L text ea eh ew e = cc (attested e, eight-words L (hash L (owner L)) text)
+
 module _ {same : Bool} {m : List ℕ} (M L text measurement claim : List ℕ) (em : m ≡ mac L measurement text) (es : same ≡ sameWords m claim) where
   pub matches : same ≡ true → record { ans = numbers (Value 1); mem = M; led = L } ≡ verify M L text measurement claim
-  unfolding verify numbers
+  unfolding verify
   matches e = rw (← em, ← es, e)
 
   pub matches-not : same ≡ false → record { ans = numbers (Value 0); mem = M; led = L } ≡ verify M L text measurement claim
-  unfolding verify numbers
+  unfolding verify
   matches-not e = rw (← em, ← es, e)
 
 -- ---- a page of the space's own
@@ -96,7 +109,7 @@ module _ (b : Machine) (M L : List ℕ) (p : ℕ) {r : ℕ} (z : r ≡ 0) where
 -- ---- the end of a run
 pub suspends : {ws w L₁ L₂ : List ℕ} {t : ℕ} (r : Regs) (M L : List ℕ) → registers r ≡ ws → w ≡ 1 ∷ take 16 (registers r) ++ (topFour (r .flags) ∷ [])
     → t ≡ running L → L₁ ≡ puts L t 3 w → L₂ ≡ run L₁ 0 → record { ans = numbers Interrupted; mem = M; led = L₂ } ≡ interrupt M L ws
-unfolding interrupt numbers
+unfolding interrupt
 suspends r M L er ew et e1 e2 = rw (← er) (cc)
 
 -- ---- loads and stores
@@ -105,15 +118,18 @@ module _ (b : Machine) (M L : List ℕ) (va : ℕ) {f : ℕ} {r : Translated} (e
     pub load-fails : {o : Out} → r ≡ No → o ≡ fault M L → o ≡ load b M L va
     load-fails n e = e ∙ sym (load-no b M L va (cc))
 
-    pub load-reads : {v w : ℕ} → r ≡ Yes v → w ≡ frame M (frameOf v) (wordOf va) → record { ans = numbers (Value w); mem = M; led = L } ≡ load b M L va
-    unfolding numbers
-    load-reads y e = ap (λ (w : ℕ). gives w M L) e ∙ sym (load-yes b M L va (cc))
+    pub load-reads : {v w g k : ℕ} → r ≡ Yes v → g ≡ frameOf v → k ≡ wordOf va → w ≡ frame M g k
+        → record { ans = numbers (Value w); mem = M; led = L } ≡ load b M L va
+    load-reads {v} {w} y eg ek e =
+        let read : w ≡ frame M (frameOf v) (wordOf va) = cc in
+        ap (λ (w : ℕ). gives w M L) read ∙ sym (load-yes b M L va (cc))
 
   module _ (w : ℕ) (er : r ≡ translate M (b .secure) f va true) where
     pub store-fails : {o : Out} → r ≡ No → o ≡ fault M L → o ≡ store b M L va w
     store-fails n e = e ∙ sym (store-no b M L va w (cc))
 
-    pub store-writes : {v : ℕ} {N : List ℕ} → r ≡ Yes v → N ≡ putWord M (frameOf v) (wordOf va) w
+    pub store-writes : {v g k : ℕ} {N : List ℕ} → r ≡ Yes v → g ≡ frameOf v → k ≡ wordOf va → N ≡ putWord M g k w
         → record { ans = numbers Done; mem = N; led = L } ≡ store b M L va w
-    unfolding numbers
-    store-writes y e = ap (λ (N : List ℕ). done N L) e ∙ sym (store-yes b M L va w (cc))
+    store-writes {v} {N = N} y eg ek e =
+        let written : N ≡ putWord M (frameOf v) (wordOf va) w = cc in
+        ap (λ (X : List ℕ). done X L) written ∙ sym (store-yes b M L va w (cc))

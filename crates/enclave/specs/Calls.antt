@@ -5,15 +5,19 @@ use mathlib.Core.Bool.{Bool, true, false, not, _&&_}
 use mathlib.Core.List.{List, [], _∷_, _++_}
 use lib.ListN.{getD, take}
 use lib.Dec.{leb, eqb}
+use Rattle.words.specs.Words.{pick, when, first}
 use Rattle.machine.specs.declared.Machine.{Machine}
 use Rattle.mapping.specs.Mapping.{wellFormed}
-use Rattle.ledger.specs.Ledger.{secondLevel, dataPage, spare, typeOf, ownerOf, firstOf, mapOf, key, hash, eight, puts, anew, run}
+use Rattle.sha256.specs.Hmac.{hmac}
+use Rattle.ledger.specs.Names.{suspendedWord, secondLevel, dataPage, spare}
+use Rattle.ledger.specs.Ledger.{typeOf, ownerOf, firstOf, mapOf, key, hash, eight, puts, anew, run}
 use Rattle.memory.specs.Memory.{frame, putWord, wiped}
-use Rattle.walk.specs.Walk.{pick, translate, frameOf, wordOf, addrCode, indexCode, filled, mapped, linked}
+use Rattle.walk.specs.Walk.{translate, frameOf, wordOf, filled, mapped, linked}
 use Rattle.walk.specs.declared.Translated.{Translated}
 use Rattle.walk.specs.declared.Translated.the-variants.{Yes, No}
-use Rattle.sha256.specs.Hmac.{hmac}
-use Rattle.answer.specs.Answer.{Out, done, gives, when, or, call, running, owner}
+use Rattle.answer.specs.declared.Answer.the-variants.{Attested, Interrupted, Faulted}
+use Rattle.answer.specs.Refusals.{noSuchPage, illFormed, notOwnSpare, notOwnData}
+use Rattle.answer.specs.Answer.{Out, macOf, answers, done, gives, call, addrCode, indexCode, running, owner}
 
 -- the first-level page of the running thread's owner
 abbrev pub firstPage : List ℕ → ℕ
@@ -28,7 +32,7 @@ unfoldable pub mac : List ℕ → List ℕ → List ℕ → List ℕ
 mac L measurement text = eight (hmac (key L) (measurement ++ text))
 
 unfoldable pub attest : List ℕ → List ℕ → List ℕ → Out
-attest M L text = record { ans = 0 ∷ mac L (hash L (owner L)) text; mem = M; led = L }
+attest M L text = answers (Attested (macOf (mac L (hash L (owner L)) text))) M L
 
 -- ---- 34 Verify data 8, measurement 8, MAC 8: 1 or 0
 unfoldable pub sameWords : List ℕ → List ℕ → Bool
@@ -44,38 +48,61 @@ verify M L text measurement claim =
 -- ---- 35 InitL2PTable p, i: "1; not own spare 16; 21; 7"
 unfoldable pub ownSpareCode : Machine → List ℕ → ℕ → ℕ
 ownSpareCode b L p =
-    or (when (leb (b .pages) p) 1) (or (when (not (eqb (ownerOf L p) (owner L))) 16) (when (not (eqb (typeOf L p) spare)) 16))
+    first
+    (when (leb (b .pages) p) noSuchPage
+    ∷ when (not (eqb (ownerOf L p) (owner L))) notOwnSpare
+    ∷ when (not (eqb (typeOf L p) spare)) notOwnSpare
+    ∷ [])
 
 unfoldable pub spareTableCode : Machine → List ℕ → List ℕ → ℕ → ℕ → ℕ
-spareTableCode b M L p i = or (ownSpareCode b L p) (indexCode M (b .secure) (firstPage L) i)
+spareTableCode b M L p i =
+    first
+    (ownSpareCode b L p
+    ∷ indexCode M (b .secure) (firstPage L) i
+    ∷ [])
 
 -- "spare to table"
 unfoldable pub spareTable : Machine → List ℕ → List ℕ → ℕ → ℕ → Out
 spareTable b M L p i =
     call (spareTableCode b M L p i) M L
-    (done (linked M (b .secure) (firstPage L) i p) (anew L p (secondLevel ∷ owner L ∷ i ∷ [])))
+    (let M₁ = linked M (b .secure) (firstPage L) i p in
+    let L₁ = anew L p (secondLevel ∷ owner L ∷ i ∷ []) in
+    done M₁ L₁)
 
 -- ---- 36 MapData p, map: "1; 16; 6; ADDR"
 unfoldable pub mapDataCode : Machine → List ℕ → List ℕ → ℕ → ℕ → ℕ
 mapDataCode b M L p map =
-    or (ownSpareCode b L p) (or (when (not (wellFormed map)) 6) (addrCode M (b .secure) (firstPage L) map))
+    first
+    (ownSpareCode b L p
+    ∷ when (not (wellFormed map)) illFormed
+    ∷ addrCode M (b .secure) (firstPage L) map
+    ∷ [])
 
 -- "spare to zero data page": a spare page holds zero memory in every accepted state, so nothing is wiped
 unfoldable pub mapData : Machine → List ℕ → List ℕ → ℕ → ℕ → Out
 mapData b M L p map =
     call (mapDataCode b M L p map) M L
-    (done (mapped M (b .secure) (firstPage L) map p) (anew L p (dataPage ∷ owner L ∷ map ∷ [])))
+    (let M₁ = mapped M (b .secure) (firstPage L) map p in
+    let L₁ = anew L p (dataPage ∷ owner L ∷ map ∷ []) in
+    done M₁ L₁)
 
 -- ---- 37 UnmapData p: "1; not own data 17"
 unfoldable pub unmapDataCode : Machine → List ℕ → ℕ → ℕ
 unmapDataCode b L p =
-    or (when (leb (b .pages) p) 1) (or (when (not (eqb (ownerOf L p) (owner L))) 17) (when (not (eqb (typeOf L p) dataPage)) 17))
+    first
+    (when (leb (b .pages) p) noSuchPage
+    ∷ when (not (eqb (ownerOf L p) (owner L))) notOwnData
+    ∷ when (not (eqb (typeOf L p) dataPage)) notOwnData
+    ∷ [])
 
 -- "slot and memory zero, spare"
 unfoldable pub unmapData : Machine → List ℕ → List ℕ → ℕ → Out
 unmapData b M L p =
     call (unmapDataCode b L p) M L
-    (done (wiped (filled M (b .secure) (firstPage L) (mapOf L p) 0) (b .secure + p)) (anew L p (spare ∷ owner L ∷ [])))
+    (let M₁ = filled M (b .secure) (firstPage L) (mapOf L p) 0 in
+    let M₂ = wiped M₁ (b .secure + p) in
+    let L₁ = anew L p (spare ∷ owner L ∷ []) in
+    done M₂ L₁)
 
 -- ---- 38 Exit v: "ends run, answers 0, v"
 unfoldable pub exit : List ℕ → List ℕ → ℕ → Out
@@ -87,11 +114,12 @@ topFour w = w / 2 ^ 28 * 2 ^ 28
 
 unfoldable pub interrupt : List ℕ → List ℕ → List ℕ → Out
 interrupt M L regs =
-    record { ans = 32 ∷ []; mem = M; led = run (puts L (running L) 3 (1 ∷ take 16 regs ++ (topFour (getD regs 16 0) ∷ []))) 0 }
+    let L₁ = puts L (running L) suspendedWord (1 ∷ take 16 regs ++ (topFour (getD regs 16 0) ∷ [])) in
+    answers Interrupted M (run L₁ 0)
 
 -- ---- 40 Fault: "ends run, code 33"
 unfoldable pub fault : List ℕ → List ℕ → Out
-fault M L = record { ans = 33 ∷ []; mem = M; led = run L 0 }
+fault M L = answers Faulted M (run L 0)
 
 -- ---- 41 Load va: "the word"; where the address is not translated, "as 40"
 abbrev pub loadThrough : List ℕ → List ℕ → ℕ → Translated → Out

@@ -3,6 +3,7 @@
 use answer::Answer;
 use answer::Mac;
 use answer::running_owner;
+use ledger::HASH_WORDS;
 use ledger::hash_words;
 use ledger::key_words;
 use sha256::hmac;
@@ -12,7 +13,7 @@ ghost use mathlib.Core.List.{List, _++_};
 ghost use Prim.Native.Nat.{ℕ};
 ghost use lib.Dec.{eqb};
 ghost use lib.ListN.{length};
-ghost use Rattle.answer.specs.Answer.{Out, numbers};
+ghost use Rattle.answer.specs.Answer.{numbers};
 ghost use Rattle.enclave.specs.Calls.{getRandom, mac, attest, sameWords, verify};
 
 // ---- 32 GetRandom
@@ -25,8 +26,11 @@ pub fn get_random(w: u32) -> Answer
 
 // ---- 33 Attest
 
+// What is signed: a measurement and as many words of text.
+const SIGNED: usize = 16;
+
 // Eight words and eight more.
-fn joined(m: &[u32], d: &[u32]) -> [u32; 16]
+fn joined(m: &[u32], d: &[u32]) -> [u32; SIGNED]
     requires { ⌜ (length (now m) ≡ 8) × (length (now d) ≡ 8) ⌝ }
     ensures { λ r. ⌜ r ≡ now (m .entry) ++ now (d .entry) ⌝ }
 {
@@ -50,7 +54,7 @@ fn joined(m: &[u32], d: &[u32]) -> [u32; 16]
     ]
 }
 
-fn mac_of(led: &[u32], measurement: &[u32], text: &[u32]) -> [u32; 8]
+fn mac_of(led: &[u32], measurement: &[u32], text: &[u32]) -> [u32; HASH_WORDS]
     requires { ⌜ (length (now measurement) ≡ 8) × (length (now text) ≡ 8) ⌝ }
     ensures { λ r. ⌜ r ≡ mac (now (led .entry)) (now (measurement .entry)) (now (text .entry)) ⌝ }
 {

@@ -1,40 +1,50 @@
 // Calls 35-37: a spare page becomes a table or a data page, a data page spare again.
 
 use answer::Answer;
-use answer::either;
-use answer::refuse;
+use answer::ILL_FORMED;
+use answer::NO_SUCH_PAGE;
+use answer::NOT_OWN_DATA;
+use answer::NOT_OWN_SPARE;
+use answer::addr_code;
+use answer::index_code;
 use answer::running_owner;
+use ledger::DATA;
+use ledger::FIRST;
+use ledger::OWNER;
+use ledger::SECOND_LEVEL;
+use ledger::SPARE;
+use ledger::TYPE;
 use ledger::mapping_word;
 use ledger::renew;
 use ledger::renew_data;
 use ledger::word;
 use machine::Machine;
 use mapping::Mapping;
-use walk::addr_code;
 use walk::fill;
-use walk::index_code;
 use walk::link;
 use walk::map_page;
+use words::either;
+use words::refuse;
 ghost use mathlib.Core.Path.{_≡_};
 ghost use Rattle.machine.specs.Machine.{Lent};
-ghost use Rattle.answer.specs.Answer.{Out, numbers};
+ghost use Rattle.answer.specs.Answer.{numbers};
 ghost use Rattle.enclave.specs.Calls.{firstPage, ownSpareCode, spareTableCode, spareTable, mapDataCode, mapData, unmapDataCode, unmapData};
 
 // The first-level page of the running thread's owner.
 pub fn first_page(led: &[u32]) -> u32
     ensures { λ r. ⌜ r ≡ firstPage (now (led .entry)) ⌝ }
 {
-    word(led, running_owner(led), 2)
+    word(led, running_owner(led), FIRST)
 }
 
 fn own_spare_code(b: Machine, led: &[u32], p: u32) -> u32
     ensures { λ r. ⌜ r ≡ ownSpareCode b (now (led .entry)) p ⌝ }
 {
     either(
-        refuse(b.pages <= p, 1),
+        refuse(b.pages <= p, NO_SUCH_PAGE),
         either(
-            refuse(word(led, p, 1) != running_owner(led), 16),
-            refuse(word(led, p, 0) != 6, 16),
+            refuse(word(led, p, OWNER) != running_owner(led), NOT_OWN_SPARE),
+            refuse(word(led, p, TYPE) != SPARE, NOT_OWN_SPARE),
         ),
     )
 }
@@ -59,7 +69,7 @@ pub fn spare_table(b: Machine, mem: &mut [u32], led: &mut [u32], p: u32, i: u32)
     }
     link(mem, b.secure, first_page(led), i, p);
     let a = running_owner(led);
-    renew(led, p, 4, a, i);
+    renew(led, p, SECOND_LEVEL, a, i);
     Answer::Done
 }
 
@@ -71,7 +81,7 @@ fn map_data_code(b: Machine, mem: &[u32], led: &[u32], p: u32, map: Mapping) -> 
     let addr = addr_code(mem, b.secure, first_page(led), map);
     either(
         own_spare_code(b, led, p),
-        either(refuse(!map.well_formed(), 6), addr),
+        either(refuse(!map.well_formed(), ILL_FORMED), addr),
     )
 }
 
@@ -95,10 +105,10 @@ fn unmap_data_code(b: Machine, led: &[u32], p: u32) -> u32
     ensures { λ r. ⌜ r ≡ unmapDataCode b (now (led .entry)) p ⌝ }
 {
     either(
-        refuse(b.pages <= p, 1),
+        refuse(b.pages <= p, NO_SUCH_PAGE),
         either(
-            refuse(word(led, p, 1) != running_owner(led), 17),
-            refuse(word(led, p, 0) != 5, 17),
+            refuse(word(led, p, OWNER) != running_owner(led), NOT_OWN_DATA),
+            refuse(word(led, p, TYPE) != DATA, NOT_OWN_DATA),
         ),
     )
 }
@@ -115,6 +125,6 @@ pub fn unmap_data(b: Machine, mem: &mut [u32], led: &mut [u32], p: u32) -> Answe
     fill(mem, b.secure, first_page(led), map.0, 0);
     memory::wipe(mem, (b.secure as usize) + (p as usize));
     let a = running_owner(led);
-    renew(led, p, 6, a, 0);
+    renew(led, p, SPARE, a, 0);
     Answer::Done
 }

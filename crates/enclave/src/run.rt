@@ -4,16 +4,19 @@ use crate::pages::first_page;
 use answer::Answer;
 use answer::Regs;
 use answer::running_page;
+use ledger::SUSPENDED;
 use ledger::set_running;
 use ledger::store_words;
 use machine::Machine;
 use walk::Translated;
+use walk::address_word;
+use walk::slot_frame;
 use walk::translate;
 ghost use mathlib.Core.Path.{_≡_};
 ghost use mathlib.Core.List.{List, [], _∷_, _++_};
 ghost use Prim.Native.Nat.{ℕ};
-ghost use lib.ListN.{length, getD, take};
-ghost use Rattle.answer.specs.Answer.{Out, numbers, registers};
+ghost use lib.ListN.{length, take};
+ghost use Rattle.answer.specs.Answer.{numbers, registers};
 ghost use Rattle.enclave.specs.Calls.{exit, topFour, interrupt, fault, load, store};
 
 // ---- 38 Exit
@@ -27,15 +30,21 @@ pub fn exit(led: &mut [u32], v: u32) -> Answer
 
 // ---- 39 Interrupt
 
+// The lowest of the four flags that are kept.
+const FLAG: u32 = 268435456;
+
+// The words of a suspended thread: 1, its registers, its flags.
+const SAVED: usize = 18;
+
 // The top 4 bits of the flags are kept.
 fn top_four(w: u32) -> u32
     ensures { λ r. ⌜ r ≡ topFour w ⌝ }
 {
-    w / 268435456 * 268435456
+    w / FLAG * FLAG
 }
 
 // The suspended thread's words 3-20: 1, the registers, the top 4 bits of the flags.
-fn suspended_words(regs: Regs) -> [u32; 18]
+fn suspended_words(regs: Regs) -> [u32; SAVED]
     ensures { λ r. ⌜ r ≡ 1 ∷ take 16 (registers regs) ++ (topFour (regs .flags) ∷ []) ⌝ }
 {
     [
@@ -66,7 +75,7 @@ pub fn interrupt(led: &mut [u32], words: &[u32]) -> Answer
 {
     let w = suspended_words(Regs::of(words));
     let t = running_page(led);
-    store_words(led, t, 3, &w);
+    store_words(led, t, SUSPENDED, &w);
     set_running(led, 0);
     Answer::Interrupted
 }
@@ -88,7 +97,7 @@ pub fn load(b: Machine, mem: &[u32], led: &mut [u32], va: u32) -> Answer
     let Translated::Yes(v) = translate(mem, b.secure, first_page(led), va, false) else {
         return fault(led);
     };
-    Answer::Value(memory::word(mem, (v / 4096) as usize, (va % 4096 / 4) as usize))
+    Answer::Value(memory::word(mem, slot_frame(v), address_word(va)))
 }
 
 // ---- 42 Store
@@ -99,6 +108,6 @@ pub fn store(b: Machine, mem: &mut [u32], led: &mut [u32], va: u32, w: u32) -> A
     let Translated::Yes(v) = translate(mem, b.secure, first_page(led), va, true) else {
         return fault(led);
     };
-    memory::put_word(mem, (v / 4096) as usize, (va % 4096 / 4) as usize, w);
+    memory::put_word(mem, slot_frame(v), address_word(va), w);
     Answer::Done
 }

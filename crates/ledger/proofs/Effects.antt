@@ -6,34 +6,35 @@ use mathlib.Core.Logic.{_⊎_, ⊎-elim, inl, inr}
 use native.Mathlib.Omega.{arith}
 use lib.ListN.{length, getD}
 use lib.Seq.{ext-getD}
-use Rattle.machine.specs.Machine.{headerWords, recordWords}
-use Rattle.ledger.specs.Ledger.{mapWords, mapStart, header, rec, put, anew, bitOff, bitOn, enter, vacate, gain, lose, eight, putHash, measure}
+use Rattle.words.specs.Words.{recordWords, bitOff, bitOn}
+use Rattle.machine.specs.Machine.{headerWords, mapWords, mapStart}
+use Rattle.ledger.specs.Ledger.{header, rec, put, anew, occupy, vacate, gain, lose, eight, putHash, measure}
 use Rattle.ledger.proofs.Views.{length-put, put-same, put-other, put-word, put-page, put-header, length-puts, puts-same, puts-word, puts-page, puts-header, length-anew, anew-same, anew-other, anew-header, length-mapOff, length-mapOn, mapOff-rec, mapOn-rec, mapOff-here, mapOn-here, mapOff-other, mapOn-other}
 
 -- ---- a free page p becomes a page with a record
 module _ (L : List ℕ) (p : ℕ) (vs : List ℕ) where
-  pub length-enter : length (enter L p vs) ≡ length L
-  unfolding enter
-  length-enter = length-mapOff (anew L p vs) p ∙ length-anew L p vs
+  pub length-occupy : length (occupy L p vs) ≡ length L
+  unfolding occupy
+  length-occupy = length-mapOff (anew L p vs) p ∙ length-anew L p vs
 
-  pub enter-header : (k : ℕ) → k < headerWords → (k ≡ mapStart + p / 32 → ⊥) → header (enter L p vs) k ≡ header L k
-  unfolding enter
-  enter-header k l n = mapOff-other (anew L p vs) p k n ∙ anew-header L p vs k l
+  pub occupy-header : (k : ℕ) → k < headerWords → (k ≡ mapStart + p / 32 → ⊥) → header (occupy L p vs) k ≡ header L k
+  unfolding occupy
+  occupy-header k l n = mapOff-other (anew L p vs) p k n ∙ anew-header L p vs k l
 
   module _ (below : p < 32 * mapWords) where
-    pub enter-map : headerWords ≤ length L → header (enter L p vs) (mapStart + p / 32) ≡ bitOff (header L (mapStart + p / 32)) (p % 32)
-    unfolding enter
-    enter-map f =
+    pub occupy-map : headerWords ≤ length L → header (occupy L p vs) (mapStart + p / 32) ≡ bitOff (header L (mapStart + p / 32)) (p % 32)
+    unfolding occupy
+    occupy-map f =
         mapOff-here (anew L p vs) p below (rw length-anew f)
         ∙ ap (λ (x : ℕ). bitOff x (p % 32)) (anew-header L p vs (mapStart + p / 32) (omega arith))
 
-    pub enter-same : headerWords + recordWords * p + recordWords ≤ length L → (j : ℕ) → j < recordWords → rec (enter L p vs) p j ≡ getD vs j 0
-    unfolding enter
-    enter-same f j l = mapOff-rec (anew L p vs) p below p j ∙ anew-same L p vs f j l
+    pub occupy-same : headerWords + recordWords * p + recordWords ≤ length L → (j : ℕ) → j < recordWords → rec (occupy L p vs) p j ≡ getD vs j 0
+    unfolding occupy
+    occupy-same f j l = mapOff-rec (anew L p vs) p below p j ∙ anew-same L p vs f j l
 
-    pub enter-other : (q j : ℕ) → (q ≡ p → ⊥) → j < recordWords → rec (enter L p vs) q j ≡ rec L q j
-    unfolding enter
-    enter-other q j n l = mapOff-rec (anew L p vs) p below q j ∙ anew-other L p vs q j n l
+    pub occupy-other : (q j : ℕ) → (q ≡ p → ⊥) → j < recordWords → rec (occupy L p vs) q j ≡ rec L q j
+    unfolding occupy
+    occupy-other q j n l = mapOff-rec (anew L p vs) p below q j ∙ anew-other L p vs q j n l
 
 -- ---- page p becomes free
 module _ (L : List ℕ) (p : ℕ) where

@@ -1,7 +1,5 @@
 pub mod Views
 pub mod Effects
-pub mod Bits
-pub mod Sums
-pub mod Map
+pub mod Ones
 pub mod Puts
-pub mod Records
+pub mod Short

@@ -7,7 +7,8 @@ use native.Mathlib.Numerals.{add-one}
 use native.Mathlib.Omega.{arith}
 use lib.ListN.{length, getD, set, drop, drop-of-length-le}
 use lib.Seq.{drop-cons}
-use Rattle.machine.specs.Machine.{headerWords, recordWords}
+use Rattle.words.specs.Words.{recordWords}
+use Rattle.machine.specs.Machine.{headerWords}
 use Rattle.ledger.specs.Ledger.{rec, put, puts}
 
 -- word i becomes g of what it was

@@ -8,8 +8,10 @@ use native.Mathlib.Decide.{decLt}
 use native.Mathlib.Nat.{add-zero}
 use lib.ListN.{length, getD, replicate, length-set, length-take, length-append, length-replicate, List·getD-append, List·getD-eq-default, getD-replicate}
 use lib.Seq.{getD-set-same, getD-set-other, getD-take, getD-append-add}
-use Rattle.machine.specs.Machine.{headerWords, recordWords}
-use Rattle.ledger.specs.Ledger.{mapWords, runningWord, mapStart, header, rec, putHeader, run, put, puts, padded, anew, mapOff, mapOn, bitOff, bitOn}
+use Rattle.words.specs.Words.{recordWords, padded, bitOff, bitOn}
+use Rattle.machine.specs.Machine.{headerWords, mapWords, mapStart}
+use Rattle.ledger.specs.Names.{runningWord}
+use Rattle.ledger.specs.Ledger.{header, rec, putHeader, run, put, puts, anew, mapOff, mapOn}
 
 -- ---- one word of the header
 module _ (L : List ℕ) (k v : ℕ) where

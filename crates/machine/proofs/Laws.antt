@@ -1,27 +1,28 @@
--- What a test's answer, once known, says of its demand; and the test of insecure frames. Assumes nothing.
+-- The machine numbers' rules taken together, and the test of insecure frames. Assumes nothing.
 use Prim.Native.Nat.{ℕ, _+_, _≤_, _<_}
-use mathlib.Core.Path.{_≡_, refl, sym, subst, _∙_}
+use mathlib.Core.Path.{_≡_, refl, sym, _∙_}
 use mathlib.Core.Bool.{Bool, true, false, not, _&&_, true≢false}
 use mathlib.Core.Logic.{_⊎_, ⊎-elim, inl, inr}
 use native.Mathlib.Omega.{arith}
 use native.Mathlib.Decide.{decLt}
-use borrow.Author.Tests.{not-true, not-false, ltb-true, ltb-false, lt-ltb, le-ltb, le-leb, lt-leb}
+use borrow.Author.Tests.{not-true, ltb-true, ltb-false, lt-ltb, le-ltb, le-leb, lt-leb}
 use Rattle.machine.specs.declared.Machine.{Machine}
-use Rattle.machine.specs.Machine.{Says, Insecure, among, insecure}
+use Rattle.machine.specs.Machine.{mostFrames, mostPages, Fits, Insecure, among, insecure}
 
--- a test that said yes, and one that said no
-pub yes-holds : {C : Type 0} (r : Bool) → Says r C → r ≡ true → C
-yes-holds {C} r s e = subst (λ (t : Bool). Says t C) e s
-
-pub no-fails : {C : Type 0} (r : Bool) → Says r C → r ≡ false → C → ⊥
-no-fails {C} r s e = subst (λ (t : Bool). Says t C) e s
-
--- the same where the code tests `!r`
-pub refused : {C : Type 0} (r : Bool) → Says r C → not r ≡ true → C → ⊥
-refused r s e = no-fails r s (not-true r e)
-
-pub passed : {C : Type 0} (r : Bool) → Says r C → not r ≡ false → C
-passed r s e = yes-holds r s (not-false r e)
+pub fitting : (b : Machine) → 1 ≤ b .frames → b .frames ≤ mostFrames → 1 ≤ b .pages → b .pages ≤ mostPages → 1 ≤ b .monitors
+    → b .secure + b .pages ≤ b .frames → b .monitor + b .monitors ≤ b .frames
+    → (b .secure + b .pages ≤ b .monitor) ⊎ (b .monitor + b .monitors ≤ b .secure) → Fits b
+fitting b f F n N k s m x =
+    record {
+      frames-low = f;
+      frames-high = F;
+      pages-low = n;
+      pages-high = N;
+      monitors-low = k;
+      secure-below = s;
+      monitor-below = m;
+      apart = x;
+    }
 
 -- ---- the test of insecure frames and the demand
 module _ (a c f : ℕ) where

@@ -4,15 +4,15 @@ use Prim.Native.Nat.{ℕ, _+_, _*_, _≤_, _<_}
 use mathlib.Core.Path.{_≡_}
 use mathlib.Core.List.{List}
 use lib.ListN.{length}
-use mathlib.Core.Bool.{Bool, true, false, not, _&&_}
+use mathlib.Core.Bool.{Bool, not, _&&_}
 use mathlib.Core.Logic.{_⊎_}
 use lib.Dec.{leb, ltb}
+use Rattle.words.specs.Words.{recordWords}
 use Rattle.machine.specs.declared.Machine.{Machine}
 
--- what a test's answer says of a demand: yes, it holds; no, it does not
-abbrev pub Says : Bool → Type 0 → Type 0
-Says true C = C
-Says false C = C → ⊥
+-- the machine numbers F, s, n, m, k as they come
+abbrev pub machineOf : ℕ → ℕ → ℕ → ℕ → ℕ → Machine
+machineOf F s n m k = record { frames = F; secure = s; pages = n; monitor = m; monitors = k }
 
 -- the most frames, and the most secure pages
 abbrev pub mostFrames : ℕ
@@ -21,15 +21,18 @@ mostFrames = 4096
 abbrev pub mostPages : ℕ
 mostPages = 256
 
--- the words of a frame, of the ledger's header, and of a page's record
+-- the words of a frame and of the ledger's header; the header's word at which the free map starts, and the map's words
 abbrev pub frameWords : ℕ
 frameWords = 1024
 
 abbrev pub headerWords : ℕ
 headerWords = 32
 
-abbrev pub recordWords : ℕ
-recordWords = 32
+abbrev pub mapStart : ℕ
+mapStart = 9
+
+abbrev pub mapWords : ℕ
+mapWords = 8
 
 -- "F frames .. (1 to 4,096); secure frames s to s+n-1 (n 1 to 256); monitor frames m to m+k-1 (k at least 1). Both ranges lie below F and share no frame."
 pub record Fits (b : Machine) : Type 0 where

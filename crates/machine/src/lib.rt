@@ -1,7 +1,9 @@
-// The machine numbers of document 01: do they fit, and is a frame insecure?
+// The machine numbers of document 01: do they fit, what is lent with them, and is a frame insecure?
 
+use words::RECORD_WORDS;
 ghost use mathlib.Core.Path.{_≡_};
-ghost use Rattle.machine.specs.Machine.{Says, Fits, among, insecure};
+ghost use Rattle.words.specs.Words.{Says};
+ghost use Rattle.machine.specs.Machine.{Fits, Lent, among, insecure};
 
 // F, s, n, m, k: frames, first secure frame, secure pages, first monitor frame, monitor frames.
 pub struct Machine {
@@ -12,15 +14,20 @@ pub struct Machine {
     pub monitors: u32,
 }
 
+pub const MOST_FRAMES: u32 = 4096;
+
+pub const MOST_PAGES: u32 = 256;
+
 pub const FRAME_WORDS: usize = 1024;
 
 pub const HEADER_WORDS: usize = 32;
 
-pub const RECORD_WORDS: usize = 32;
+// The header's word at which the free map starts, the map's words, and the word after them.
+pub const MAP_START: usize = 9;
 
-const MOST_FRAMES: u32 = 4096;
+pub const MAP_WORDS: usize = 8;
 
-const MOST_PAGES: u32 = 256;
+pub const MAP_END: usize = MAP_START + MAP_WORDS;
 
 // Do the numbers keep the rules? (A sum is made only where it cannot wrap.)
 pub fn fits(b: Machine) -> bool
@@ -65,6 +72,22 @@ pub fn fits(b: Machine) -> bool
         return true;
     }
     false
+}
+
+// Do they, and are the memory and the ledger as long as they say?
+pub fn lent(b: Machine, mem: &[u32], led: &[u32]) -> bool
+    ensures { λ r. ⌜ Says r (Lent b (now (mem .entry)) (now (led .entry))) ⌝ }
+{
+    if !fits(b) {
+        return false;
+    }
+    if mem.len() != FRAME_WORDS * (b.frames as usize) {
+        return false;
+    }
+    if led.len() != HEADER_WORDS + RECORD_WORDS * (b.pages as usize) {
+        return false;
+    }
+    true
 }
 
 // Is f one of the `count` frames from `first` on?

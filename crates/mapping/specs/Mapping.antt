@@ -1,12 +1,29 @@
 -- Document 01: "A mapping word holds the page address in bits 12-29, read (always 1) in bit 0, write in bit 1, execute in bit 2, zeros
 -- elsewhere; a mapping word answers for itself: index (bits 22-29), slot (12-21), rights, well-formedness." On numbers. Assumes nothing.
 use mathlib.Core.Bool.{Bool, _&&_}
-use Prim.Native.Nat.{ℕ, _*_, _/_, _%_, _^_}
+use Prim.Native.Nat.{ℕ, _*_, _%_, _^_}
 use lib.Dec.{eqb, ltb}
+use Rattle.words.specs.Words.{bits}
 
--- the c bits of w from bit lo on
-abbrev pub bits : ℕ → ℕ → ℕ → ℕ
-bits lo c w = w / 2 ^ lo % 2 ^ c
+-- the bytes of a page and of what one table maps; the tables that a first-level page can name; the end of the addresses
+abbrev pub pageBytes : ℕ
+pageBytes = 4096
+
+abbrev pub tableBytes : ℕ
+tableBytes = 4194304
+
+abbrev pub mostTables : ℕ
+mostTables = 256
+
+abbrev pub addressEnd : ℕ
+addressEnd = 2 ^ 30
+
+-- the rights that hold execute; and the rights at all
+abbrev pub executeRight : ℕ
+executeRight = 4
+
+abbrev pub allRights : ℕ
+allRights = 8
 
 abbrev pub indexOf : ℕ → ℕ
 indexOf w = bits 22 8 w
@@ -32,4 +49,4 @@ executes w = eqb (bits 2 1 w) 1
 
 -- read is 1, and bits 3-11 and those above 29 are zero
 unfoldable pub wellFormed : ℕ → Bool
-wellFormed w = reads w && (eqb (bits 3 9 w) 0 && ltb w (2 ^ 30))
+wellFormed w = reads w && (eqb (bits 3 9 w) 0 && ltb w addressEnd)

@@ -4,11 +4,13 @@ use mathlib.Core.Path.{_≡_, sym, ap, _∙_}
 use mathlib.Core.List.{List}
 use native.Mathlib.Omega.{arith}
 use native.Mathlib.Decide.{decLt}
-use lib.ListN.{length, getD, take, drop, replicate, length-set, length-take, length-drop, length-replicate, List·getD-eq-default, getD-replicate}
-use lib.Seq.{length-take-le, getD-set-same, getD-set-other, getD-take, getD-drop, set-out}
+use lib.ListN.{length, getD, take, drop, replicate, length-set, length-take, length-drop, length-replicate, List·getD-eq-default}
+use lib.Seq.{length-take-le, ext-getD, getD-set-same, getD-set-other, getD-take, getD-drop, set-out}
+use Rattle.words.specs.Words.{paste}
+use Rattle.words.proofs.Paste.{length-paste, paste-before, paste-in, paste-after}
+use Rattle.words.proofs.Lists.{zeros-at}
 use Rattle.machine.specs.Machine.{frameWords}
-use Rattle.memory.specs.Memory.{frame, wordsOf, putWord, paste, copied, wiped}
-use Rattle.memory.proofs.Paste.{length-paste, paste-before, paste-in, paste-after}
+use Rattle.memory.specs.Memory.{frame, wordsOf, putWord, copied, wiped}
 
 -- ---- a word outside the memory
 module _ (M : List ℕ) (f k : ℕ) (l : length M ≤ frameWords * f + k) where
@@ -77,9 +79,6 @@ zeros = replicate frameWords 0
 pub length-zeros : length zeros ≡ frameWords
 length-zeros = length-replicate {A = ℕ} frameWords 0
 
-pub zeros-at : (k : ℕ) → k < frameWords → getD zeros k 0 ≡ 0
-zeros-at k m = getD-replicate {A = ℕ} frameWords k 0 0 m
-
 module _ (M : List ℕ) (g : ℕ) (l : frameWords * g + frameWords ≤ length M) where
   pub length-wiped : length (wiped M g) ≡ length M
   unfolding wiped
@@ -87,7 +86,7 @@ module _ (M : List ℕ) (g : ℕ) (l : frameWords * g + frameWords ≤ length M)
 
   pub wiped-same : (k : ℕ) → k < frameWords → frame (wiped M g) g k ≡ 0
   unfolding wiped
-  wiped-same k m = pasted-same M g zeros l length-zeros k m ∙ zeros-at k m
+  wiped-same k m = pasted-same M g zeros l length-zeros k m ∙ zeros-at frameWords k
 
   pub wiped-other : (h k : ℕ) → (h ≡ g → ⊥) → k < frameWords → frame (wiped M g) h k ≡ frame M h k
   unfolding wiped
@@ -101,6 +100,16 @@ module _ (M : List ℕ) (f g : ℕ) (lf : frameWords * f + frameWords ≤ length
   pub copied-same : (k : ℕ) → k < frameWords → frame (copied M f g) g k ≡ frame M f k
   unfolding copied
   copied-same k m = pasted-same M g (wordsOf M f) lg (length-wordsOf M f lf) k m ∙ wordsOf-at M f k m
+
+  -- what was copied, read off the copy
+  pub words-copied : wordsOf (copied M f g) g ≡ wordsOf M f
+  words-copied =
+      let long : frameWords * g + frameWords ≤ length (copied M f g) = omega (arith, length-copied) in
+      let same : length (wordsOf (copied M f g) g) ≡ frameWords = length-wordsOf (copied M f g) g long in
+      ext-getD 0 (wordsOf (copied M f g) g) (wordsOf M f) (same ∙ sym (length-wordsOf M f lf))
+      (λ k l.
+      let m : k < frameWords = omega arith in
+      wordsOf-at (copied M f g) g k m ∙ copied-same k m ∙ sym (wordsOf-at M f k m))
 
   pub copied-other : (h k : ℕ) → (h ≡ g → ⊥) → k < frameWords → frame (copied M f g) h k ≡ frame M h k
   unfolding copied

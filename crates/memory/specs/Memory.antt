@@ -1,8 +1,9 @@
 -- Document 01: the memory is F frames of 1,024 words. Reading outside it gives 0, and a word put outside it changes nothing. Whole frames are
 -- pasted only inside it. Assumes nothing.
 use Prim.Native.Nat.{ℕ, _+_, _*_}
-use mathlib.Core.List.{List, _++_}
+use mathlib.Core.List.{List}
 use lib.ListN.{getD, set, take, drop, replicate}
+use Rattle.words.specs.Words.{paste}
 use Rattle.machine.specs.Machine.{frameWords}
 
 -- word k of frame f
@@ -16,10 +17,6 @@ wordsOf M f = take frameWords (drop (frameWords * f) M)
 -- the memory with v at word k of frame f
 unfoldable pub putWord : List ℕ → ℕ → ℕ → ℕ → List ℕ
 putWord M f k v = set M (frameWords * f + k) v
-
--- the n words from word i on replaced by the n words of vs, where they lie inside; the rest as they were
-unfoldable pub paste : List ℕ → ℕ → ℕ → List ℕ → List ℕ
-paste M i n vs = take i M ++ (vs ++ drop (i + n) M)
 
 -- frame g holds the words of frame f; frame g is zero
 unfoldable pub copied : List ℕ → ℕ → ℕ → List ℕ

@@ -2,9 +2,9 @@
 
 use machine::FRAME_WORDS;
 ghost use mathlib.Core.Path.{_≡_};
-ghost use Prim.Native.Nat.{ℕ, _+_, _*_, _<_, _≤_};
-ghost use lib.ListN.{length, getD};
-ghost use Rattle.machine.specs.Machine.{frameWords, Says};
+ghost use Prim.Native.Nat.{_+_, _*_, _≤_};
+ghost use lib.ListN.{length};
+ghost use Rattle.machine.specs.Machine.{frameWords};
 ghost use Rattle.memory.specs.Memory.{frame, putWord, copied, wiped};
 
 // Word k of frame f.
@@ -60,20 +60,4 @@ pub fn wipe(mem: &mut [u32], g: usize)
         mem[to + k] = 0;
         k += 1;
     }
-}
-
-// Are the words from lo on all zero? (All are looked at: a loop with no way out is several words a step.)
-pub fn all_zero(words: &[u32], lo: usize) -> bool
-    ensures { λ r. ⌜ Says r ((k : ℕ) → lo ≤ k → k < length (now (words .entry)) → getD (now (words .entry)) k 0 ≡ 0) ⌝ }
-{
-    let mut seen: u32 = 0;
-    let mut k = lo;
-    while k < words.len() {
-        seen |= words[k];
-        k += 1;
-    }
-    if seen != 0 {
-        return false;
-    }
-    true
 }

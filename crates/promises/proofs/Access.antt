@@ -8,16 +8,18 @@ use native.Mathlib.Omega.{arith}
 use lib.Dec.{ltb}
 use lib.ListN.{drop}
 use borrow.Author.Tests.{ne-eqb}
+use Rattle.words.specs.Words.{or, allZero}
 use Rattle.machine.specs.declared.Machine.{Machine}
-use Rattle.ledger.specs.Ledger.{header, runningWord}
-use Rattle.answer.specs.Answer.{Out, or}
+use Rattle.ledger.specs.Ledger.{header}
+use Rattle.ledger.specs.Names.{runningWord}
+use Rattle.answer.specs.Answer.{Out}
 use Rattle.answer.proofs.Laws.{call-done}
 use Rattle.enclave.specs.Calls.{fault, load, store}
-use Rattle.kept.proofs.Isolation.{reached-alone as alone}
-use Rattle.kept.proofs.Access.{OpenTo, load-touches, store-touches}
-use Rattle.monitor.specs.Batch.{arg, allZero, calls, found, turnCode, formCode, obey}
+use Rattle.batch.specs.Batch.{arg, calls, lookup, turnCode, formCode, obey}
+use Rattle.batch.proofs.Obeyed.{parts}
+use Rattle.kept.proofs.Reach.Isolation.{reached-alone as alone}
+use Rattle.kept.proofs.Reach.Access.{OpenTo, load-touches, store-touches}
 use Rattle.promises.specs.Access.{Open, Open.own, Open.shared, Faults, LoadTouchesOneWord, StoreTouchesOneWord, ReachedAlone, ReachedAloneAlways}
-use Rattle.promises.proofs.Obeyed.{parts}
 use Rattle.promises.proofs.Kept.{history-keeps}
 
 -- ---- a record with zeros after its arguments passes, while a thread runs
@@ -27,11 +29,11 @@ module _ (b : Machine) (M L W : List ℕ) (runs : header L runningWord ≡ 0 →
   passes-form i k e z = rw (z, e, ne-eqb (header L runningWord) 0 runs)
 
   loaded : arg W 0 ≡ 41 → allZero (drop 2 W) ≡ true → obey b M L W ≡ load b M L (arg W 1)
-  unfolding obey found calls
+  unfolding obey lookup calls
   loaded e z = rw e (call-done M L (load b M L (arg W 1)) (passes-form 41 1 refl z))
 
   stored : arg W 0 ≡ 42 → allZero (drop 3 W) ≡ true → obey b M L W ≡ store b M L (arg W 1) (arg W 2)
-  unfolding obey found calls
+  unfolding obey lookup calls
   stored e z = rw e (call-done M L (store b M L (arg W 1) (arg W 2)) (passes-form 42 2 refl z))
 
 -- ---- loads and stores

@@ -6,9 +6,9 @@ use native.Mathlib.Nat.{zero-add, suc-add}
 use native.Mathlib.Omega.{arith}
 use lib.ListN.{take, drop}
 use lib.Seq.{take-nil, take-take}
+use Rattle.words.specs.Words.{recordWords}
 use Rattle.machine.specs.declared.Machine.{Machine}
-use Rattle.machine.specs.Machine.{recordWords}
-use Rattle.monitor.specs.Batch.{obey, batch}
+use Rattle.batch.specs.Batch.{obey, batch}
 
 drop-take : (n m : ℕ) (W : List ℕ) → drop n (take (n + m) W) ≡ take m (drop n W)
 drop-take zero m W = rw (zero-add m)

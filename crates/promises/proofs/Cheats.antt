@@ -5,21 +5,21 @@ use mathlib.Core.List.{List, _∷_, _++_}
 use native.Mathlib.Omega.{arith}
 use lib.ListN.{length, getD, take, replicate, length-replicate}
 use lib.Seq.{getD-take}
+use Rattle.words.specs.Words.{recordWords, bit, leastBelow, padded, bitOff, sumBelow, or, listBelow, allZero}
+use Rattle.words.proofs.Lists.{listed-all}
 use Rattle.machine.specs.declared.Machine.{Machine}
-use Rattle.machine.specs.Machine.{recordWords}
-use Rattle.ledger.specs.Ledger.{header, rec, bit, mapBit, leastBelow, put, puts, padded, anew, bitOff, mapOff, enter, sumBelow}
-use Rattle.answer.specs.Answer.{Out, or, unless}
-use Rattle.answer.proofs.Laws.{listed-all}
-use Rattle.accept.specs.Accept.{isFree, mapWord, Accepted}
-use Rattle.system.specs.Calls.{freePages, freeCount, lowestFree, twoFreeCode, initAddrSpaceCode, newSpace, initAddrSpace}
 use Rattle.sha256.specs.Sha256.{H0}
-use Rattle.monitor.specs.Boot.{listBelow, freshMap, freshLedger, freshMemory}
-use Rattle.monitor.specs.Batch.{calls, found, allZero, turnCode, formCode, obey, after, batch}
-use Rattle.monitor.specs.Services.{mostRecords, BatchFits, Batched}
+use Rattle.ledger.specs.Ledger.{header, rec, mapBit, put, puts, anew, mapOff, occupy}
+use Rattle.answer.specs.Answer.{Out, unless}
+use Rattle.accept.specs.Accept.{isFree, mapWord, Accepted}
+use Rattle.system.specs.Calls.{freePages, freeCount, lowestFree, initAddrSpaceCode, newSpace, initAddrSpace}
+use Rattle.batch.specs.Batch.{lookup, calls, turnCode, formCode, obey, after, batch}
+use Rattle.batch.specs.Service.{mostRecords, BatchFits, Batched}
+use Rattle.boot.specs.Boot.{freshMap, freshLedger, freshMemory}
 use Rattle.box_a.specs.Shift.{boxA, row1, row2, row3, row4, row5, row6, row7, row8, shift, asked, played}
 use Rattle.box_a.proofs.Table.{table}
 use Rattle.box_a.proofs.Fresh.{accepted-a}
-use Rattle.promises.specs.Cheats.{Left, Service, Satisfies, Always, NobodyRefusesAll, NobodyHasASingleReply, NobodyMovesNothing, NobodyPlaysAllAtOnce, Counts, NobodyInventsCounts, MovingNothingKeeps}
+use Rattle.promises.specs.Cheats.{Left, Service, Satisfies, Always, RefusesAll, NobodyRefusesAll, HasASingleReply, NobodyHasASingleReply, MovesNothing, NobodyMovesNothing, PlaysAllAtOnce, NobodyPlaysAllAtOnce, Counts, NobodyInventsCounts, MovingNothingKeeps}
 use Rattle.promises.proofs.Batches.{batch-take}
 
 -- what a batch that is done leaves
@@ -72,7 +72,7 @@ one W = batch boxA 1 M₀ L₀ W
 abbrev two : Out
 two = batch boxA 2 M₀ L₀ (count ++ newly)
 
-record Runs : Type 0 where
+record Played : Type 0 where
   zeros-refused : getD (take recordWords (one zeros .ans)) 0 0 ≡ 19
   newly-done : getD (take recordWords (one newly .ans)) 0 0 ≡ 0
   count-still : (obey boxA M₀ L₀ count .mem ≡ M₀) × (obey boxA M₀ L₀ count .led ≡ L₀)
@@ -81,8 +81,8 @@ record Runs : Type 0 where
   newly-there : rec (one newly .led) 0 0 ≡ 1
   newly-before : rec L₀ 0 0 ≡ 0
 
-runs : Runs
-unfolding batch after obey found calls formCode turnCode allZero or unless freePages freeCount lowestFree mapBit leastBelow initAddrSpace initAddrSpaceCode twoFreeCode newSpace enter mapOff anew puts put padded rec header bitOff bit H0 freshLedger listBelow freshMap mapWord isFree sumBelow L₀
+runs : Played
+unfolding batch after obey lookup calls formCode turnCode allZero or unless freePages freeCount lowestFree mapBit leastBelow initAddrSpace initAddrSpaceCode newSpace occupy mapOff anew puts put padded rec header bitOff bit H0 freshLedger listBelow freshMap mapWord isFree sumBelow L₀
 runs = record { zeros-refused = refl; newly-done = refl; count-still = (refl, refl); count-before = refl; count-after = refl; newly-there = refl; newly-before = refl }
 
 -- what a cheat does, it does there
@@ -99,28 +99,23 @@ module _ (P : Machine → List ℕ → List ℕ → List ℕ → Left → Type 0
 
 pub nobody-refuses-all : NobodyRefusesAll
 nobody-refuses-all S sat always =
-    caught (λ b M L W o. getD (o .answers) 0 0 ≡ 0 → ⊥) S sat always 0 (omega arith) newly refl
+    caught RefusesAll S sat always 0 (omega arith) newly refl .never-done
     (sym (getD-take recordWords (one newly .ans) 0 0 (omega arith)) ∙ runs .newly-done)
 
 pub nobody-has-a-single-reply : NobodyHasASingleReply
 nobody-has-a-single-reply R S sat always =
-    let reply = caught (λ b M L W o. take recordWords (o .answers) ≡ R b M L) S sat always in
-    let same = ap (λ (l : List ℕ). getD l 0 0) (reply 0 (omega arith) newly refl ∙ sym (reply 0 (omega arith) zeros refl)) in
+    let reply = caught (HasASingleReply R) S sat always in
+    let same = ap (λ (l : List ℕ). getD l 0 0) (reply 0 (omega arith) newly refl .one-reply ∙ sym (reply 0 (omega arith) zeros refl .one-reply)) in
     omega (arith, runs .newly-done, runs .zeros-refused)
 
 pub nobody-moves-nothing : NobodyMovesNothing
 nobody-moves-nothing S sat always =
-    let same = caught (λ b M L W o. (o .mem ≡ M) × (o .led ≡ L)) S sat always 0 (omega arith) newly refl .1 in
+    let same = caught MovesNothing S sat always 0 (omega arith) newly refl .same-ledger in
     omega (arith, ap (λ (l : List ℕ). rec l 0 0) same, runs .newly-there, runs .newly-before)
 
 pub nobody-plays-all-at-once : NobodyPlaysAllAtOnce
 nobody-plays-all-at-once S sat always =
-    let same
-    = caught
-    (λ b M L W o.
-    obey b M L (take recordWords W) .mem ≡ M → obey b M L (take recordWords W) .led ≡ L
-    → take recordWords (o .answers) ≡ padded (obey b (o .mem) (o .led) (take recordWords W) .ans))
-    S sat always 1 (omega arith) (count ++ newly) refl (runs .count-still .0) (runs .count-still .1) in
+    let same = caught PlaysAllAtOnce S sat always 1 (omega arith) (count ++ newly) refl .from-the-end (runs .count-still .0) (runs .count-still .1) in
     omega (arith, ap (λ (l : List ℕ). getD l 1 0) same, runs .count-before, runs .count-after)
 
 pub nobody-invents-counts : NobodyInventsCounts

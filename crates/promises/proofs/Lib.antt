@@ -1,4 +1,3 @@
-pub mod Obeyed
 pub mod Refused
 pub mod Batches
 pub mod Settled

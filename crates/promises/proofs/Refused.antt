@@ -6,19 +6,19 @@ use mathlib.Core.Logic.{_⊎_, inl, inr, ⊎-elim}
 use mathlib.Core.List.{List, [], _∷_}
 use native.Mathlib.Omega.{arith}
 use lib.ListN.{take, drop-of-length-le}
+use Rattle.words.specs.Words.{recordWords, padded}
 use Rattle.machine.specs.declared.Machine.{Machine}
-use Rattle.machine.specs.Machine.{recordWords}
-use Rattle.ledger.specs.Ledger.{padded}
 use Rattle.walk.specs.Walk.{translate}
 use Rattle.walk.specs.declared.Translated.{Translated}
 use Rattle.walk.specs.declared.Translated.the-variants.{Yes, No}
 use Rattle.answer.specs.Answer.{Out, refused, unless, call}
 use Rattle.system.specs.Calls.{getPhysPages, initAddrSpace, initThread, initTable, allocSpare, mapSecure, mapInsecure, finalise, enterThread, resume, stop, remove, freePages}
 use Rattle.enclave.specs.Calls.{getRandom, attest, verify, spareTable, mapData, unmapData, exit, interrupt, fault, firstPage, loadThrough, load, storeThrough, store}
-use Rattle.monitor.specs.Batch.{arg, calls, obey, batch}
-use Rattle.monitor.specs.Services.{Booted, Batched}
+use Rattle.batch.specs.Batch.{arg, calls, obey, batch}
+use Rattle.batch.specs.Service.{Batched}
+use Rattle.batch.proofs.Obeyed.{parts, _and_, by-rows-alone}
+use Rattle.boot.specs.Boot.{Booted}
 use Rattle.promises.specs.Refused.{codeOf, alone, Refusal, Unmoved, RefusedMovesNothing, ListCarriesOn, OutcomesStandAlone, EighteenMovesNothing, EmptyMovesNothing}
-use Rattle.promises.proofs.Obeyed.{parts, _and_, by-rows}
 
 -- how a record can end: refused, done, or as an outcome
 data Told (M L : List ℕ) (o : Out) : Type 0 where
@@ -51,7 +51,7 @@ module _ (M L : List ℕ) where
 told : (b : Machine) (M L W : List ℕ) → Told M L (obey b M L W)
 unfolding calls getPhysPages initAddrSpace initThread initTable allocSpare mapSecure mapInsecure finalise enterThread resume stop remove freePages getRandom attest verify spareTable mapData unmapData exit interrupt fault
 told b M L W =
-    by-rows b M L W (Told M L) (λ c. refuses c refl)
+    by-rows-alone b M L W (Told M L) (λ c. refuses c refl)
     ((λ _. does refl)
     and (λ _. by-call M L _ _ refl)
     and (λ _. by-call M L _ _ refl)

@@ -1,11 +1,12 @@
 -- No second outcome satisfies a service's relation. Assumes nothing.
 use mathlib.Core.Path.{refl, sym, _∙_}
 use mathlib.Core.Bool.{true, false}
-use Rattle.monitor.specs.Services.{Booted, Batched}
-use Rattle.monitor.proofs.Cut.{cut}
-use Rattle.monitor.proofs.Fresh.{fresh-accepted}
+use Rattle.batch.specs.Service.{Batched}
+use Rattle.batch.proofs.Cut.{cut}
+use Rattle.batch.proofs.Obeyed.{parts}
+use Rattle.boot.specs.Boot.{Booted}
+use Rattle.boot.proofs.Fresh.{fresh-accepted}
 use Rattle.promises.specs.Settled.{BootIsSettled, AcceptanceIsSettled, BatchIsSettled, CutInTwoIsTheSame, FreshGetsAYes}
-use Rattle.promises.proofs.Obeyed.{parts}
 
 pub boot-is-settled : BootIsSettled
 boot-is-settled b key M L r r' M₁ L₁ M₂ L₂ (Booted.done f e m l) (Booted.done f' e' m' l') = (e ∙ sym e', m ∙ sym m', l ∙ sym l')

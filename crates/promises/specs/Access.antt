@@ -7,16 +7,18 @@ use mathlib.Core.Bool.{true}
 use mathlib.Core.Logic.{_⊎_}
 use mathlib.Core.List.{List, [], _∷_}
 use lib.ListN.{drop}
+use Rattle.words.specs.Words.{allZero}
 use Rattle.machine.specs.declared.Machine.{Machine}
 use Rattle.machine.specs.Machine.{frameWords, Insecure}
-use Rattle.ledger.specs.Ledger.{header, runningWord, rec, run, space, secondLevel, dataPage, stopped}
+use Rattle.ledger.specs.Ledger.{header, rec, run}
+use Rattle.ledger.specs.Names.{runningWord, space, secondLevel, dataPage, stopped}
 use Rattle.memory.specs.Memory.{frame, putWord}
 use Rattle.walk.specs.declared.Walked.{Walked}
 use Rattle.walk.specs.declared.Walked.the-variants.{At}
 use Rattle.walk.specs.Walk.{walk, frameOf}
 use Rattle.answer.specs.Answer.{Out}
 use Rattle.accept.specs.Accept.{Is, Accepted}
-use Rattle.monitor.specs.Batch.{arg, allZero, obey}
+use Rattle.batch.specs.Batch.{arg, obey}
 use Rattle.promises.specs.Kept.{History}
 
 -- a thread of space a runs

@@ -1,17 +1,17 @@
 -- Document 01, "Try these cheats": no service that cheats satisfies `Batched`, the relation that the exported batch ensures; and why demand 3
 -- alone is not enough. Assumes nothing.
-use Prim.Native.Nat.{ℕ, suc, _+_, _*_, _/_}
+use Prim.Native.Nat.{ℕ, suc, _*_}
 use mathlib.Core.Path.{_≡_}
-use mathlib.Core.List.{List, [], _∷_}
+use mathlib.Core.List.{List}
 use lib.ListN.{getD, length, take, replicate}
+use Rattle.words.specs.Words.{recordWords, padded}
 use Rattle.machine.specs.declared.Machine.{Machine}
-use Rattle.machine.specs.Machine.{recordWords}
-use Rattle.ledger.specs.Ledger.{header, rec, mapStart, padded}
-use Rattle.answer.specs.Answer.{Out}
+use Rattle.machine.specs.Machine.{mapStart}
+use Rattle.ledger.specs.Ledger.{header, rec}
 use Rattle.accept.specs.Accept.{Accepted}
-use Rattle.monitor.specs.Batch.{obey}
-use Rattle.monitor.specs.Boot.{freshLedger, freshMemory}
-use Rattle.monitor.specs.Services.{Batched}
+use Rattle.batch.specs.Batch.{obey}
+use Rattle.batch.specs.Service.{Batched}
+use Rattle.boot.specs.Boot.{freshLedger, freshMemory}
 use Rattle.box_a.specs.Shift.{boxA, shift, asked}
 
 -- what a batch service leaves: its answer, the memory, the ledger, the answer list
@@ -40,24 +40,35 @@ abbrev pub Never : (Machine → List ℕ → List ℕ → List ℕ → Left → 
 Never P = (S : Service) → Satisfies S → Always P S → ⊥
 
 -- "a monitor that refuses all": its first record is never done
-abbrev pub NobodyRefusesAll : Type 0
-NobodyRefusesAll = Never (λ b M L W o. getD (o .answers) 0 0 ≡ 0 → ⊥)
+pub record RefusesAll (b : Machine) (M L W : List ℕ) (o : Left) : Type 0 where
+  pub never-done : getD (o .answers) 0 0 ≡ 0 → ⊥
 
--- "one with a single reply": whatever is asked first in a state, one record answers
+abbrev pub NobodyRefusesAll : Type 0
+NobodyRefusesAll = Never RefusesAll
+
+-- "one with a single reply": whatever is asked first in a state, one record, R, answers
+pub record HasASingleReply (R : Machine → List ℕ → List ℕ → List ℕ) (b : Machine) (M L W : List ℕ) (o : Left) : Type 0 where
+  pub one-reply : take recordWords (o .answers) ≡ R b M L
+
 abbrev pub NobodyHasASingleReply : Type 0
-NobodyHasASingleReply = (R : Machine → List ℕ → List ℕ → List ℕ) → Never (λ b M L W o. take recordWords (o .answers) ≡ R b M L)
+NobodyHasASingleReply = (R : Machine → List ℕ → List ℕ → List ℕ) → Never (HasASingleReply R)
 
 -- "one that moves nothing"
+pub record MovesNothing (b : Machine) (M L W : List ℕ) (o : Left) : Type 0 where
+  pub same-memory : o .mem ≡ M
+  pub same-ledger : o .led ≡ L
+
 abbrev pub NobodyMovesNothing : Type 0
-NobodyMovesNothing = Never (λ b M L W o. (o .mem ≡ M) × (o .led ≡ L))
+NobodyMovesNothing = Never MovesNothing
 
 -- "one that plays the whole list at its first record": a first record that moves nothing is answered from the state in which the list ends
+pub record PlaysAllAtOnce (b : Machine) (M L W : List ℕ) (o : Left) : Type 0 where
+  pub from-the-end :
+      obey b M L (take recordWords W) .mem ≡ M → obey b M L (take recordWords W) .led ≡ L
+      → take recordWords (o .answers) ≡ padded (obey b (o .mem) (o .led) (take recordWords W) .ans)
+
 abbrev pub NobodyPlaysAllAtOnce : Type 0
-NobodyPlaysAllAtOnce =
-    Never
-    (λ b M L W o.
-    obey b M L (take recordWords W) .mem ≡ M → obey b M L (take recordWords W) .led ≡ L
-    → take recordWords (o .answers) ≡ padded (obey b (o .mem) (o .led) (take recordWords W) .ans))
+NobodyPlaysAllAtOnce = Never PlaysAllAtOnce
 
 -- "invented owned, block or free counts": after the first fourteen cases of the shift on box A the space owns 4 pages and has 66 blocks, and
 -- pages 5, 6 and 7 are free (224), whatever the key and the word v that the memory held throughout

@@ -1,6 +1,6 @@
 -- Demand 3: "Run any calls and events, refused ones too, while outsiders change insecure frames only. The check passes after every one."
 -- Assumes nothing.
-use Prim.Native.Nat.{ℕ, _+_, _<_}
+use Prim.Native.Nat.{ℕ, _<_}
 use mathlib.Core.Path.{_≡_}
 use mathlib.Core.List.{List}
 use lib.ListN.{length}
@@ -8,9 +8,8 @@ use Rattle.machine.specs.declared.Machine.{Machine}
 use Rattle.machine.specs.Machine.{frameWords, Insecure}
 use Rattle.memory.specs.Memory.{frame}
 use Rattle.accept.specs.Accept.{Accepted}
-use Rattle.monitor.specs.Boot.{freshLedger, freshMemory}
-use Rattle.monitor.specs.Batch.{obey, batch}
-use Rattle.monitor.specs.Services.{BootFits}
+use Rattle.batch.specs.Batch.{obey, batch}
+use Rattle.boot.specs.Boot.{freshLedger, freshMemory, BootFits}
 
 -- every record whatever, any words, refused or done
 abbrev pub EveryRecordKeeps : Type 0

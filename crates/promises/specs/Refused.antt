@@ -4,12 +4,12 @@ use mathlib.Core.Path.{_≡_}
 use mathlib.Core.Logic.{_⊎_}
 use mathlib.Core.List.{List, [], _∷_}
 use lib.ListN.{getD, take, drop, replicate}
+use Rattle.words.specs.Words.{recordWords, padded}
 use Rattle.machine.specs.declared.Machine.{Machine}
-use Rattle.machine.specs.Machine.{recordWords}
-use Rattle.ledger.specs.Ledger.{padded}
 use Rattle.answer.specs.Answer.{Out}
-use Rattle.monitor.specs.Batch.{obey, after, batch}
-use Rattle.monitor.specs.Services.{Booted, Batched}
+use Rattle.batch.specs.Batch.{obey, after, batch}
+use Rattle.batch.specs.Service.{Batched}
+use Rattle.boot.specs.Boot.{Booted}
 
 -- the number that an answer begins with, and the record that holds it and then zeros
 abbrev pub codeOf : Out → ℕ

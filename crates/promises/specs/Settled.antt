@@ -4,11 +4,12 @@ use mathlib.Core.Path.{_≡_}
 use mathlib.Core.Bool.{Bool, true}
 use mathlib.Core.List.{List}
 use lib.ListN.{drop}
+use Rattle.words.specs.Words.{recordWords}
 use Rattle.machine.specs.declared.Machine.{Machine}
-use Rattle.machine.specs.Machine.{recordWords}
-use Rattle.monitor.specs.Boot.{freshLedger, freshMemory}
-use Rattle.monitor.specs.Batch.{after, batch}
-use Rattle.monitor.specs.Services.{BootFits, Booted, Accepts, Batched}
+use Rattle.accept.specs.Accept.{Accepts}
+use Rattle.batch.specs.Batch.{after, batch}
+use Rattle.batch.specs.Service.{Batched}
+use Rattle.boot.specs.Boot.{freshLedger, freshMemory, BootFits, Booted}
 
 abbrev pub BootIsSettled : Type 0
 BootIsSettled =

@@ -1,18 +1,15 @@
 -- The 64 rounds in four times sixteen, over the schedule in four times sixteen words. Assumes nothing.
 use mathlib.Core.Path.{_≡_, refl, sym, _∙_}
 use mathlib.Core.List.{List, [], _∷_}
-use mathlib.Core.Logic.{_⊎_, inl, inr, ⊎-elim}
+use mathlib.Core.Logic.{⊎-elim}
 use Prim.Native.Nat.{ℕ, zero, suc, _+_, _-_, _%_, _<_, _≤_}
 use native.Mathlib.Nat.{add-zero, add-suc}
-use native.Mathlib.Decide.{decLe}
 use native.Mathlib.Omega.{arith}
 use lib.ListN.{length, getD, take, drop, set, length-append, length-drop, length-set, List·getD-append}
 use lib.Seq.{getD-set-same, getD-set-other, getD-at, getD-take, getD-drop, drop-append-le, drop-drop, ext-getD}
+use Rattle.words.proofs.Cases.{lt-or-ge}
 use Rattle.sha256.specs.Sha256.{_⊞_, σ0, σ1, nextWord, words, schedule, round, rounds, K}
 use Rattle.sha256.specs.declared.rounds.Vars.{Vars}
-
-lt-or-ge : (m n : ℕ) → (m < n) ⊎ (n ≤ m)
-lt-or-ge m n = elim (decLe n m) [ yes p ↦ inr p | no q ↦ inl (omega arith) ]
 
 module _ (b : List ℕ) (l : length b ≡ 16) where
   words-length : (n : ℕ) → length (words n b) ≡ 16 + n

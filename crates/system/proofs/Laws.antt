@@ -6,23 +6,25 @@ use mathlib.Core.List.{List}
 use mathlib.Core.Logic.{_⊎_, inl, inr}
 use lib.Dec.{eqb}
 use borrow.Author.Tests.{eqb-true, eqb-false}
+use Rattle.words.specs.Words.{pick, when}
+use Rattle.words.proofs.Codes.{or-none, passes, passes-not, in-range, is, is-not}
 use Rattle.machine.specs.declared.Machine.{Machine}
 use Rattle.machine.specs.Machine.{Insecure, insecure}
 use Rattle.machine.proofs.Laws.{insecure-holds}
 use Rattle.mapping.specs.Mapping.{executes, wellFormed}
-use Rattle.ledger.specs.Ledger.{free, space, thread, spare, building, final, stopped, rec}
+use Rattle.ledger.specs.Names.{free, space, thread, spare, building, final, stopped}
+use Rattle.ledger.specs.Ledger.{rec}
 use Rattle.memory.specs.Memory.{frame}
-use Rattle.walk.specs.Walk.{pick}
-use Rattle.walk.proofs.Laws.{Holds, passes-addr, passes-index}
-use Rattle.answer.specs.Answer.{when}
-use Rattle.answer.proofs.Laws.{or-none, passes, passes-not, in-range, is, is-not, passes-as, passes-pg, passes-building}
-use Rattle.system.specs.Calls.{twoFreeCode, initAddrSpaceCode, initThreadCode, initTableCode, allocSpareCode, placeCode, mapSecureCode, mapInsecureCode, threadCode, enterCode, resumeCode, removeSpaceCode, removeOtherCode, removeCode}
+use Rattle.walk.proofs.Laws.{Holds}
+use Rattle.answer.proofs.Laws.{passes-addr, passes-index, passes-as, passes-pg, passes-building}
+use Rattle.system.specs.Parts.{placeCode}
+use Rattle.system.specs.Calls.{initAddrSpaceCode, initThreadCode, initTableCode, allocSpareCode, mapSecureCode, mapInsecureCode, threadCode, enterCode, resumeCode, removeSpaceCode, removeOtherCode, removeCode}
 
 module _ (b : Machine) (L : List ℕ) where
   -- ---- 2 InitAddrSpace
   pub passes-init-addr-space : (a f : ℕ) → initAddrSpaceCode b L a f ≡ 0
       → (a < b .pages) × (f < b .pages) × (rec L a 0 ≡ free) × (rec L f 0 ≡ free) × (a ≡ f → ⊥)
-  unfolding initAddrSpaceCode twoFreeCode
+  unfolding initAddrSpaceCode
   passes-init-addr-space a f e =
       let x = or-none e in
       let y = or-none (x .1) in
@@ -124,7 +126,7 @@ module _ (b : Machine) (M L : List ℕ) where
   pub passes-map-secure : (a p map g : ℕ) → mapSecureCode b M L a p map g ≡ 0
       → (a < b .pages) × (rec L a 0 ≡ space) × (rec L a 3 ≡ building) × (p < b .pages) × (rec L p 0 ≡ free) × (wellFormed map ≡ true) ×
       Holds M (b .secure) (rec L a 2) map 0 × Insecure b g
-  unfolding mapSecureCode
+  unfolding mapSecureCode placeCode
   passes-map-secure a p map g e =
       let x = or-none e in
       let y = or-none (x .1) in
@@ -137,7 +139,7 @@ module _ (b : Machine) (M L : List ℕ) where
   pub passes-map-insecure : (a map g : ℕ) → mapInsecureCode b M L a map g ≡ 0
       → (a < b .pages) × (rec L a 0 ≡ space) × (rec L a 3 ≡ building) × (wellFormed map ≡ true) × (executes map ≡ false) ×
       Holds M (b .secure) (rec L a 2) map 0 × Insecure b g
-  unfolding mapInsecureCode
+  unfolding mapInsecureCode placeCode
   passes-map-insecure a map g e =
       let x = or-none e in
       let y = or-none (x .1) in

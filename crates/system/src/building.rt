@@ -1,17 +1,35 @@
 // Calls 2-8: an address space, its threads, tables, spare and data pages, its insecure mappings, its measurement.
 
 use answer::Answer;
+use answer::ILL_FORMED;
+use answer::NO_SUCH_PAGE;
+use answer::NOT_FREE;
+use answer::NOT_INSECURE;
+use answer::WRONG_STATE;
+use answer::addr_code;
 use answer::building_code;
-use answer::either;
+use answer::index_code;
 use answer::page_code;
-use answer::refuse;
 use answer::space_code;
+use ledger::BLOCKS;
+use ledger::DATA_BLOCKS;
+use ledger::FINAL;
+use ledger::FIRST;
+use ledger::FIRST_LEVEL;
+use ledger::FREE;
+use ledger::HASH_WORDS;
+use ledger::SECOND_LEVEL;
+use ledger::SPARE;
+use ledger::STATE;
+use ledger::STOPPED;
+use ledger::THREAD;
+use ledger::TYPE;
 use ledger::add_blocks;
-use ledger::enter_data;
-use ledger::enter_page;
-use ledger::enter_space;
 use ledger::gain_page;
 use ledger::hash_words;
+use ledger::occupy_data;
+use ledger::occupy_page;
+use ledger::occupy_space;
 use ledger::put_hash;
 use ledger::store;
 use ledger::word;
@@ -23,12 +41,12 @@ use sha256::absorb;
 use sha256::compress;
 use sha256::finish;
 use sha256::start;
-use walk::addr_code;
 use walk::fill;
-use walk::index_code;
 use walk::link;
 use walk::map_page;
 use walk::slot_word;
+use words::either;
+use words::refuse;
 ghost use mathlib.Core.Path.{_≡_};
 ghost use mathlib.Core.List.{List};
 ghost use Prim.Native.Nat.{ℕ, _+_, _*_, _≤_};
@@ -36,7 +54,15 @@ ghost use lib.ListN.{length};
 ghost use Rattle.machine.specs.Machine.{frameWords, Lent};
 ghost use Rattle.memory.specs.Memory.{wordsOf};
 ghost use Rattle.answer.specs.Answer.{numbers};
-ghost use Rattle.system.specs.Calls.{twoFreeCode, initAddrSpaceCode, newSpace, initAddrSpace, initThreadCode, threadBlock, addThread, newThread, initThread, initTableCode, newTable, initTable, allocSpareCode, newSpare, allocSpare, placeCode, mapSecureCode, mapBlock, addPage, newData, mapSecure, mapInsecureCode, mapInsecure, finalised, finalise};
+ghost use Rattle.system.specs.Parts.{twoFreeCode, placeCode};
+ghost use Rattle.system.specs.Calls.{initAddrSpaceCode, newSpace, initAddrSpace, initThreadCode, threadBlock, addThread, newThread, initThread, initTableCode, newTable, initTable, allocSpareCode, newSpare, allocSpare, mapSecureCode, mapBlock, addPage, newData, mapSecure, mapInsecureCode, mapInsecure, finalised, finalise};
+
+// What is measured is blocks of 16 words; the first word says what was added.
+const BLOCK: usize = 16;
+
+const THREAD_BLOCK: u32 = 1;
+
+const MAP_BLOCK: u32 = 2;
 
 // ---- 2 InitAddrSpace
 
@@ -45,8 +71,11 @@ fn two_free_code(led: &[u32], a: u32, f: u32) -> u32
     ensures { λ r. ⌜ r ≡ twoFreeCode (now (led .entry)) a f ⌝ }
 {
     either(
-        refuse(word(led, a, 0) != 0, 2),
-        either(refuse(word(led, f, 0) != 0, 2), refuse(a == f, 2)),
+        refuse(word(led, a, TYPE) != FREE, NOT_FREE),
+        either(
+            refuse(word(led, f, TYPE) != FREE, NOT_FREE),
+            refuse(a == f, NOT_FREE),
+        ),
     )
 }
 
@@ -54,16 +83,16 @@ fn init_addr_space_code(b: Machine, led: &[u32], a: u32, f: u32) -> u32
     ensures { λ r. ⌜ r ≡ initAddrSpaceCode b (now (led .entry)) a f ⌝ }
 {
     either(
-        refuse(b.pages <= a, 1),
-        either(refuse(b.pages <= f, 1), two_free_code(led, a, f)),
+        refuse(b.pages <= a, NO_SUCH_PAGE),
+        either(refuse(b.pages <= f, NO_SUCH_PAGE), two_free_code(led, a, f)),
     )
 }
 
 fn new_space(led: &mut [u32], a: u32, f: u32)
     ensures { λ r. ⌜ now (led .exit) ≡ newSpace (now (led .entry)) a f ⌝ }
 {
-    enter_space(led, a, f, start());
-    enter_page(led, f, 3, a, 0);
+    occupy_space(led, a, f, start());
+    occupy_page(led, f, FIRST_LEVEL, a, 0);
 }
 
 pub fn init_addr_space(b: Machine, led: &mut [u32], a: u32, f: u32) -> Answer
@@ -85,17 +114,17 @@ fn init_thread_code(b: Machine, led: &[u32], a: u32, t: u32) -> u32
     either(building_code(b, led, a), page_code(b, led, t))
 }
 
-fn thread_block(entry: u32) -> [u32; 16]
+fn thread_block(entry: u32) -> [u32; BLOCK]
     ensures { λ r. ⌜ r ≡ threadBlock entry ⌝ }
 {
-    let mut block = [0u32; 16];
-    block[0] = 1;
+    let mut block = [0u32; BLOCK];
+    block[0] = THREAD_BLOCK;
     block[1] = entry;
     block
 }
 
 // The hash h with the thread added.
-fn add_thread(h: [u32; 8], entry: u32) -> [u32; 8]
+fn add_thread(h: [u32; HASH_WORDS], entry: u32) -> [u32; HASH_WORDS]
     ensures { λ r. ⌜ r ≡ addThread h entry ⌝ }
 {
     let block = thread_block(entry);
@@ -106,7 +135,7 @@ fn new_thread(led: &mut [u32], a: u32, t: u32, entry: u32)
     ensures { λ r. ⌜ now (led .exit) ≡ newThread (now (led .entry)) a t entry ⌝ }
 {
     let h = add_thread(hash_words(led, a), entry);
-    enter_page(led, t, 2, a, entry);
+    occupy_page(led, t, THREAD, a, entry);
     gain_page(led, a);
     add_blocks(led, a, 1, h);
 }
@@ -131,7 +160,7 @@ fn init_table_code(b: Machine, mem: &[u32], led: &[u32], a: u32, p: u32, i: u32)
         building_code(b, led, a),
         either(
             page_code(b, led, p),
-            index_code(mem, b.secure, word(led, a, 2), i),
+            index_code(mem, b.secure, word(led, a, FIRST), i),
         ),
     )
 }
@@ -139,7 +168,7 @@ fn init_table_code(b: Machine, mem: &[u32], led: &[u32], a: u32, p: u32, i: u32)
 fn new_table(led: &mut [u32], a: u32, p: u32, i: u32)
     ensures { λ r. ⌜ now (led .exit) ≡ newTable (now (led .entry)) a p i ⌝ }
 {
-    enter_page(led, p, 4, a, i);
+    occupy_page(led, p, SECOND_LEVEL, a, i);
     gain_page(led, a);
 }
 
@@ -150,7 +179,7 @@ pub fn init_table(b: Machine, mem: &mut [u32], led: &mut [u32], a: u32, p: u32, 
     if code != 0 {
         return Answer::Refused(code);
     }
-    link(mem, b.secure, word(led, a, 2), i, p);
+    link(mem, b.secure, word(led, a, FIRST), i, p);
     new_table(led, a, p, i);
     Answer::Done
 }
@@ -162,14 +191,17 @@ fn alloc_spare_code(b: Machine, led: &[u32], a: u32, p: u32) -> u32
 {
     either(
         space_code(b, led, a),
-        either(refuse(word(led, a, 3) == 2, 4), page_code(b, led, p)),
+        either(
+            refuse(word(led, a, STATE) == STOPPED, WRONG_STATE),
+            page_code(b, led, p),
+        ),
     )
 }
 
 fn new_spare(led: &mut [u32], a: u32, p: u32)
     ensures { λ r. ⌜ now (led .exit) ≡ newSpare (now (led .entry)) a p ⌝ }
 {
-    enter_page(led, p, 6, a, 0);
+    occupy_page(led, p, SPARE, a, 0);
     gain_page(led, a);
 }
 
@@ -189,7 +221,10 @@ pub fn alloc_spare(b: Machine, led: &mut [u32], a: u32, p: u32) -> Answer
 fn place_code(b: Machine, mem: &[u32], f: u32, map: Mapping, g: u32) -> u32
     ensures { λ r. ⌜ r ≡ placeCode b (now (mem .entry)) f (map .0) g ⌝ }
 {
-    either(addr_code(mem, b.secure, f, map), refuse(!insecure(b, g), 9))
+    either(
+        addr_code(mem, b.secure, f, map),
+        refuse(!insecure(b, g), NOT_INSECURE),
+    )
 }
 
 fn map_secure_code(
@@ -203,44 +238,45 @@ fn map_secure_code(
 ) -> u32
     ensures { λ r. ⌜ r ≡ mapSecureCode b (now (mem .entry)) (now (led .entry)) a p (map .0) g ⌝ }
 {
-    let place = place_code(b, mem, word(led, a, 2), map, g);
+    let place = place_code(b, mem, word(led, a, FIRST), map, g);
     either(
         building_code(b, led, a),
         either(
             page_code(b, led, p),
-            either(refuse(!map.well_formed(), 6), place),
+            either(refuse(!map.well_formed(), ILL_FORMED), place),
         ),
     )
 }
 
-fn map_block(map: Mapping) -> [u32; 16]
+fn map_block(map: Mapping) -> [u32; BLOCK]
     ensures { λ r. ⌜ r ≡ mapBlock (map .0) ⌝ }
 {
-    let mut block = [0u32; 16];
-    block[0] = 2;
+    let mut block = [0u32; BLOCK];
+    block[0] = MAP_BLOCK;
     block[1] = map.address();
     block
 }
 
 // The hash h with the mapping and the words of frame g added.
-fn add_page(mem: &[u32], h: [u32; 8], map: Mapping, g: u32) -> [u32; 8]
+fn add_page(mem: &[u32], h: [u32; HASH_WORDS], map: Mapping, g: usize) -> [u32; HASH_WORDS]
     requires { ⌜ frameWords * g + frameWords ≤ length (now mem) ⌝ }
     ensures { λ r. ⌜ r ≡ addPage h (map .0) (wordsOf (now (mem .entry)) g) ⌝ }
 {
     let block = map_block(map);
-    let from = FRAME_WORDS * (g as usize);
+    let from = FRAME_WORDS * g;
     let to = from + FRAME_WORDS;
     absorb(compress(h, &block), &mem[from..to])
 }
 
-fn new_data(led: &mut [u32], a: u32, p: u32, map: Mapping, h: [u32; 8])
+fn new_data(led: &mut [u32], a: u32, p: u32, map: Mapping, h: [u32; HASH_WORDS])
     ensures { λ r. ⌜ now (led .exit) ≡ newData (now (led .entry)) a p (map .0) h ⌝ }
 {
-    enter_data(led, p, a, map);
+    occupy_data(led, p, a, map);
     gain_page(led, a);
-    add_blocks(led, a, 65, h);
+    add_blocks(led, a, DATA_BLOCKS, h);
 }
 
+// (The frame is read once: what is measured is what was copied, whoever writes the frame meanwhile.)
 pub fn map_secure(
     b: Machine,
     mem: &mut [u32],
@@ -257,9 +293,10 @@ pub fn map_secure(
     if code != 0 {
         return Answer::Refused(code);
     }
-    let h = add_page(mem, hash_words(led, a), map, g);
-    memory::copy(mem, g as usize, (b.secure as usize) + (p as usize));
-    map_page(mem, b.secure, word(led, a, 2), map, p);
+    let page = (b.secure as usize) + (p as usize);
+    memory::copy(mem, g as usize, page);
+    let h = add_page(mem, hash_words(led, a), map, page);
+    map_page(mem, b.secure, word(led, a, FIRST), map, p);
     new_data(led, a, p, map, h);
     Answer::Done
 }
@@ -269,12 +306,12 @@ pub fn map_secure(
 fn map_insecure_code(b: Machine, mem: &[u32], led: &[u32], a: u32, map: Mapping, g: u32) -> u32
     ensures { λ r. ⌜ r ≡ mapInsecureCode b (now (mem .entry)) (now (led .entry)) a (map .0) g ⌝ }
 {
-    let place = place_code(b, mem, word(led, a, 2), map, g);
+    let place = place_code(b, mem, word(led, a, FIRST), map, g);
     either(
         building_code(b, led, a),
         either(
-            refuse(!map.well_formed(), 6),
-            either(refuse(map.executes(), 6), place),
+            refuse(!map.well_formed(), ILL_FORMED),
+            either(refuse(map.executes(), ILL_FORMED), place),
         ),
     )
 }
@@ -297,7 +334,7 @@ pub fn map_insecure(
     fill(
         mem,
         b.secure,
-        word(led, a, 2),
+        word(led, a, FIRST),
         map.0,
         slot_word(g, map.rights()),
     );
@@ -309,8 +346,8 @@ pub fn map_insecure(
 fn close_space(led: &mut [u32], a: u32)
     ensures { λ r. ⌜ now (led .exit) ≡ finalised (now (led .entry)) a ⌝ }
 {
-    let h = finish(hash_words(led, a), word(led, a, 5));
-    store(led, a, 3, 1);
+    let h = finish(hash_words(led, a), word(led, a, BLOCKS));
+    store(led, a, STATE, FINAL);
     put_hash(led, a, h);
 }
 

@@ -1,9 +1,19 @@
 // Calls 1 and 11-13: stopping a space, taking its pages back, and how many are free.
 
+use answer::ALREADY_FREE;
 use answer::Answer;
-use answer::either;
-use answer::refuse;
+use answer::NO_SUCH_PAGE;
+use answer::NOT_STOPPED;
+use answer::STILL_OWNS;
 use answer::space_code;
+use ledger::COUNT;
+use ledger::FREE;
+use ledger::OWNER;
+use ledger::SPACE;
+use ledger::SPARE;
+use ledger::STATE;
+use ledger::STOPPED;
+use ledger::TYPE;
 use ledger::count_free;
 use ledger::lose_page;
 use ledger::lowest_free;
@@ -11,6 +21,8 @@ use ledger::store;
 use ledger::vacate_page;
 use ledger::word;
 use machine::Machine;
+use words::either;
+use words::refuse;
 ghost use mathlib.Core.Path.{_≡_};
 ghost use mathlib.Core.List.{List};
 ghost use Prim.Native.Nat.{ℕ};
@@ -35,7 +47,7 @@ pub fn stop(b: Machine, led: &mut [u32], a: u32) -> Answer
     if code != 0 {
         return Answer::Refused(code);
     }
-    store(led, a, 3, 2);
+    store(led, a, STATE, STOPPED);
     Answer::Done
 }
 
@@ -45,31 +57,34 @@ fn remove_space_code(led: &[u32], p: u32) -> u32
     ensures { λ r. ⌜ r ≡ removeSpaceCode (now (led .entry)) p ⌝ }
 {
     either(
-        refuse(word(led, p, 3) != 2, 13),
-        refuse(word(led, p, 4) != 0, 14),
+        refuse(word(led, p, STATE) != STOPPED, NOT_STOPPED),
+        refuse(word(led, p, COUNT) != 0, STILL_OWNS),
     )
 }
 
 fn remove_other_code(led: &[u32], p: u32) -> u32
     ensures { λ r. ⌜ r ≡ removeOtherCode (now (led .entry)) p ⌝ }
 {
-    if word(led, p, 0) == 6 {
+    if word(led, p, TYPE) == SPARE {
         return 0;
     }
-    refuse(word(led, word(led, p, 1), 3) != 2, 13)
+    refuse(
+        word(led, word(led, p, OWNER), STATE) != STOPPED,
+        NOT_STOPPED,
+    )
 }
 
 fn remove_code(b: Machine, led: &[u32], p: u32) -> u32
     ensures { λ r. ⌜ r ≡ removeCode b (now (led .entry)) p ⌝ }
 {
     if b.pages <= p {
-        return 1;
+        return NO_SUCH_PAGE;
     }
-    let t = word(led, p, 0);
-    if t == 0 {
-        return 22;
+    let t = word(led, p, TYPE);
+    if t == FREE {
+        return ALREADY_FREE;
     }
-    if t == 1 {
+    if t == SPACE {
         return remove_space_code(led, p);
     }
     remove_other_code(led, p)
@@ -79,8 +94,8 @@ fn remove_code(b: Machine, led: &[u32], p: u32) -> u32
 fn leave(led: &mut [u32], p: u32)
     ensures { λ r. ⌜ now (led .exit) ≡ left (now (led .entry)) p ⌝ }
 {
-    if word(led, p, 0) != 1 {
-        lose_page(led, word(led, p, 1));
+    if word(led, p, TYPE) != SPACE {
+        lose_page(led, word(led, p, OWNER));
     }
 }
 

@@ -1,28 +1,46 @@
 // Calls 9 and 10: a thread runs, from its entry point or from where it was interrupted.
 
 use answer::Answer;
+use answer::IS_SUSPENDED;
+use answer::NO_SUCH_PAGE;
+use answer::NOT_SUSPENDED;
+use answer::NOT_THREAD;
+use answer::OWNER_NOT_FINAL;
 use answer::Regs;
-use answer::either;
-use answer::refuse;
+use ledger::ENTRY;
+use ledger::FINAL;
+use ledger::FLAGS;
+use ledger::OWNER;
+use ledger::STATE;
+use ledger::SUSPENDED;
+use ledger::THREAD;
+use ledger::TYPE;
 use ledger::set_running;
 use ledger::store_words;
 use ledger::word;
 use machine::Machine;
+use words::either;
+use words::refuse;
 ghost use mathlib.Core.Path.{_≡_};
-ghost use mathlib.Core.List.{List, [], _∷_, _++_};
+ghost use mathlib.Core.List.{List};
 ghost use Prim.Native.Nat.{ℕ};
-ghost use lib.ListN.{replicate};
 ghost use Rattle.answer.specs.Answer.{numbers, registers};
-ghost use Rattle.system.specs.Calls.{threadCode, enterCode, enterThread, resumeCode, saved, resume};
+ghost use Rattle.system.specs.Calls.{threadCode, enterCode, firstRegs, enterThread, resumeCode, savedRegs, resume};
+
+// The words of a suspended thread: 1, its registers, its flags.
+const SAVED: usize = 18;
 
 fn thread_code(b: Machine, led: &[u32], t: u32) -> u32
     ensures { λ r. ⌜ r ≡ threadCode b (now (led .entry)) t ⌝ }
 {
     either(
-        refuse(b.pages <= t, 1),
+        refuse(b.pages <= t, NO_SUCH_PAGE),
         either(
-            refuse(word(led, t, 0) != 2, 10),
-            refuse(word(led, word(led, t, 1), 3) != 1, 5),
+            refuse(word(led, t, TYPE) != THREAD, NOT_THREAD),
+            refuse(
+                word(led, word(led, t, OWNER), STATE) != FINAL,
+                OWNER_NOT_FINAL,
+            ),
         ),
     )
 }
@@ -32,12 +50,15 @@ fn thread_code(b: Machine, led: &[u32], t: u32) -> u32
 fn enter_code(b: Machine, led: &[u32], t: u32) -> u32
     ensures { λ r. ⌜ r ≡ enterCode b (now (led .entry)) t ⌝ }
 {
-    either(thread_code(b, led, t), refuse(word(led, t, 3) != 0, 11))
+    either(
+        thread_code(b, led, t),
+        refuse(word(led, t, SUSPENDED) != 0, IS_SUSPENDED),
+    )
 }
 
 // The registers of a run that begins.
 fn first_regs(entry: u32, x: u32, y: u32, z: u32) -> Regs
-    ensures { λ r. ⌜ registers r ≡ x ∷ y ∷ z ∷ replicate 12 0 ++ (entry ∷ 0 ∷ []) ⌝ }
+    ensures { λ r. ⌜ registers r ≡ registers (firstRegs entry x y z) ⌝ }
 {
     Regs {
         r0: x,
@@ -67,7 +88,7 @@ pub fn enter_thread(b: Machine, led: &mut [u32], t: u32, x: u32, y: u32, z: u32)
     if code != 0 {
         return Answer::Refused(code);
     }
-    let regs = first_regs(word(led, t, 2), x, y, z);
+    let regs = first_regs(word(led, t, ENTRY), x, y, z);
     set_running(led, t + 1);
     Answer::Runs(regs)
 }
@@ -77,12 +98,15 @@ pub fn enter_thread(b: Machine, led: &mut [u32], t: u32, x: u32, y: u32, z: u32)
 fn resume_code(b: Machine, led: &[u32], t: u32) -> u32
     ensures { λ r. ⌜ r ≡ resumeCode b (now (led .entry)) t ⌝ }
 {
-    either(thread_code(b, led, t), refuse(word(led, t, 3) == 0, 12))
+    either(
+        thread_code(b, led, t),
+        refuse(word(led, t, SUSPENDED) == 0, NOT_SUSPENDED),
+    )
 }
 
 // The registers that thread t holds.
 fn saved_regs(led: &[u32], t: u32) -> Regs
-    ensures { λ r. ⌜ registers r ≡ saved (now (led .entry)) t ⌝ }
+    ensures { λ r. ⌜ registers r ≡ registers (savedRegs (now (led .entry)) t) ⌝ }
 {
     Regs {
         r0: word(led, t, 4),
@@ -101,7 +125,7 @@ fn saved_regs(led: &[u32], t: u32) -> Regs
         r13: word(led, t, 17),
         r14: word(led, t, 18),
         r15: word(led, t, 19),
-        flags: word(led, t, 20),
+        flags: word(led, t, FLAGS),
     }
 }
 
@@ -113,8 +137,8 @@ pub fn resume(b: Machine, led: &mut [u32], t: u32) -> Answer
         return Answer::Refused(code);
     }
     let regs = saved_regs(led, t);
-    let idle = [0u32; 18];
-    store_words(led, t, 3, &idle);
+    let idle = [0u32; SAVED];
+    store_words(led, t, SUSPENDED, &idle);
     set_running(led, t + 1);
     Answer::Runs(regs)
 }

@@ -8,6 +8,7 @@ use native.Mathlib.Omega.{arith}
 use lib.Dec.{eqb, leb}
 use lib.ListN.{length}
 use borrow.Author.Tests.{eq-eqb, ne-eqb, lt-leb, leb-false, eqb-true, eqb-false, not-false}
+use Rattle.words.specs.Words.{pick}
 use Rattle.mapping.specs.Mapping.{indexOf, slotOf, rightsOf, writes}
 use Rattle.memory.specs.Memory.{frame, putWord}
 use Rattle.memory.proofs.Frames.{length-putWord}
@@ -15,7 +16,7 @@ use Rattle.walk.specs.declared.Walked.{Walked}
 use Rattle.walk.specs.declared.Walked.the-variants.{At, NoTable}
 use Rattle.walk.specs.declared.Translated.{Translated}
 use Rattle.walk.specs.declared.Translated.the-variants.{Yes, No}
-use Rattle.walk.specs.Walk.{pick, walk, passed, translate, filled, slotWord, mapped, linked, takenCode, addrCode, indexCode}
+use Rattle.walk.specs.Walk.{walk, allowed, translate, filled, slotWord, mapped, linked}
 
 -- the address has a table, and its slot there holds v
 pub record Holds (M : List ℕ) (s first va v : ℕ) : Type 0 where
@@ -34,7 +35,7 @@ module _ (M : List ℕ) (s first va : ℕ) where
   walk-table T e = rw (e ∙ add-one T)
 
   -- by the first-level word
-  by-word : {C : Type 0} → (frame M (s + first) (indexOf va) ≡ 0 → C) → ((T : ℕ) → frame M (s + first) (indexOf va) ≡ T + 1 → C) → C
+  pub by-word : {C : Type 0} → (frame M (s + first) (indexOf va) ≡ 0 → C) → ((T : ℕ) → frame M (s + first) (indexOf va) ≡ T + 1 → C) → C
   by-word {C} none some = go (frame M (s + first) (indexOf va)) refl
     where
       go : (w : ℕ) → frame M (s + first) (indexOf va) ≡ w → C
@@ -105,34 +106,6 @@ module _ (M : List ℕ) (s f i p : ℕ) where
   unfolding linked
   length-linked = length-putWord M (s + f) i (p + 1)
 
--- ---- what passes
-pick-zero : (t : Bool) (c d : ℕ) → pick t (suc c) d ≡ 0 → (t ≡ false) × (d ≡ 0)
-pick-zero true c d e = absurd (omega arith)
-pick-zero false c d e = (refl, e)
-
-zero-pick : (t : Bool) (c : ℕ) → pick t 0 (suc c) ≡ 0 → t ≡ true
-zero-pick true c e = refl
-zero-pick false c e = absurd (omega arith)
-
-module _ (M : List ℕ) (s first : ℕ) where
-  pub passes-addr : (va : ℕ) → addrCode M s first va ≡ 0 → Holds M s first va 0
-  unfolding addrCode
-  passes-addr va e =
-      by-word M s first va (λ z. absurd (no (walk-nothing M s first va z)))
-      (λ T t. record { table = T; named = t; slot = empty (walk-table M s first va T t) })
-    where
-      no : walk 2 M s first va ≡ NoTable → ⊥
-      no w = let z : _≡_ {A = ℕ} 8 0 = ap takenCode (sym w) ∙ e in omega arith
-
-      empty : {T v : ℕ} → walk 2 M s first va ≡ At T v → v ≡ 0
-      empty {v} w = eqb-true v 0 (zero-pick (eqb v 0) 6 (ap takenCode (sym w) ∙ e))
-
-  pub passes-index : (i : ℕ) → indexCode M s first i ≡ 0 → (i < 256) × (frame M (s + first) i ≡ 0)
-  unfolding indexCode
-  passes-index i e =
-      let x = pick-zero (leb 256 i) 20 (pick (eqb (frame M (s + first) i) 0) 0 7) e in
-      (leb-false 256 i (x .0), eqb-true (frame M (s + first) i) 0 (zero-pick (eqb (frame M (s + first) i) 0) 6 (x .1)))
-
 -- ---- what is translated
 pub record Translates (M : List ℕ) (s first va : ℕ) (write : Bool) (v : ℕ) : Type 0 where
   pub aligned : va % 4 ≡ 0
@@ -150,7 +123,7 @@ writes-too true w e t = not-false w e
 writes-too false w e t = absurd (let z : _≡_ {A = ℕ} 0 1 = cc in omega arith)
 
 module _ (M : List ℕ) (s first va : ℕ) (write : Bool) where
-  pub through : va % 4 ≡ 0 → va < 2 ^ 30 → translate M s first va write ≡ passed write (walk 2 M s first va)
+  pub through : va % 4 ≡ 0 → va < 2 ^ 30 → translate M s first va write ≡ allowed write (walk 2 M s first va)
   unfolding translate
   through a l = rw (eq-eqb (va % 4) 0 a, lt-leb (2 ^ 30) va l)
 
@@ -161,7 +134,7 @@ module _ (M : List ℕ) (s first va : ℕ) (write : Bool) where
       let y = pick-yes (leb (2 ^ 30) va) (x .1) in
       go (walk 2 M s first va) refl (eqb-true (va % 4) 0 (not-false (eqb (va % 4) 0) (x .0))) (leb-false (2 ^ 30) va (y .0)) (y .1)
     where
-      go : (W : Walked) → walk 2 M s first va ≡ W → va % 4 ≡ 0 → va < 2 ^ 30 → passed write W ≡ Yes v → Translates M s first va write v
+      go : (W : Walked) → walk 2 M s first va ≡ W → va % 4 ≡ 0 → va < 2 ^ 30 → allowed write W ≡ Yes v → Translates M s first va write v
       go NoTable w a l p = absurd (let z : _≡_ {A = ℕ} 0 1 = cc in omega arith)
       go (At T u) w a l p =
           let x = pick-yes (eqb u 0) p in
@@ -179,7 +152,7 @@ module _ (M : List ℕ) (s first va : ℕ) (write : Bool) where
   pub translates : {v : ℕ} → Translates M s first va write v → translate M s first va write ≡ Yes v
   translates {v} h =
       through (h .aligned) (h .low)
-      ∙ ap (passed write) (walk-holds M s first va (h .holds))
+      ∙ ap (allowed write) (walk-holds M s first va (h .holds))
       ∙ rw (ne-eqb v 0 (h .taken)) (go write (h .right))
     where
       go : (r : Bool) → (r ≡ true → writes v ≡ true) → pick (r && not (writes v)) No (Yes v) ≡ Yes v

@@ -4,13 +4,13 @@ use mathlib.Core.Path.{_≡_, refl, sym, ap, _∙_}
 use mathlib.Core.Bool.{Bool, true, false, not}
 use mathlib.Core.List.{List}
 use native.Mathlib.Numerals.{sub-one}
-use borrow.Author.Tests.{eq-eqb, ne-eqb, le-leb, lt-leb}
+use borrow.Author.Tests.{eq-eqb, ne-eqb, le-leb}
 use Rattle.mapping.specs.Mapping.{indexOf, slotOf, writes}
 use Rattle.memory.specs.Memory.{frame, putWord}
 use Rattle.walk.specs.declared.Walked.{Walked}
 use Rattle.walk.specs.declared.Walked.the-variants.{At, NoTable}
 use Rattle.walk.specs.declared.Translated.the-variants.{Yes, No}
-use Rattle.walk.specs.Walk.{below, walk, passed, translate, filled, addrCode, indexCode}
+use Rattle.walk.specs.Walk.{below, walk, allowed, translate, filled}
 use Rattle.walk.proofs.Laws.{through, filled-nothing, filled-at}
 
 -- ---- the walk, on a level and a word that are numbers and not `suc`s
@@ -53,8 +53,8 @@ module _ (M : List ℕ) (s first va : ℕ) (write : Bool) where
   high a h = rw (eq-eqb (va % 4) 0 a, le-leb (2 ^ 30) va h)
 
   module _ {r : Walked} (a : va % 4 ≡ 0) (l : va < 2 ^ 30) (e : r ≡ walk 2 M s first va) where
-    so : {W : Walked} → r ≡ W → translate M s first va write ≡ passed write W
-    so w = through M s first va write a l ∙ ap (passed write) (sym e ∙ w)
+    so : {W : Walked} → r ≡ W → translate M s first va write ≡ allowed write W
+    so w = through M s first va write a l ∙ ap (allowed write) (sym e ∙ w)
 
     pub unmapped : r ≡ NoTable → No ≡ translate M s first va write
     unmapped w = sym (so w)
@@ -79,32 +79,3 @@ module _ (M : List ℕ) (s first va v : ℕ) {r : Walked} (e : r ≡ walk 2 M s 
 
   pub is-filled : {p w f k : ℕ} {N : List ℕ} → r ≡ At p w → f ≡ s + p → k ≡ slotOf va → N ≡ putWord M f k v → N ≡ filled M s first va v
   is-filled a ef ek en = cc (filled-at M s first va v (sym e ∙ a))
-
--- ---- ADDR
-module _ (M : List ℕ) (s first va : ℕ) {r : Walked} (e : r ≡ walk 2 M s first va) where
-  pub no-table : r ≡ NoTable → 8 ≡ addrCode M s first va
-  unfolding addrCode
-  no-table w = rw (← e, w)
-
-  pub free-slot : {p v : ℕ} → r ≡ At p v → v ≡ 0 → 0 ≡ addrCode M s first va
-  unfolding addrCode
-  free-slot {v} w z = rw (← e, w, eq-eqb v 0 z)
-
-  pub taken-slot : {p v : ℕ} → r ≡ At p v → (v ≡ 0 → ⊥) → 7 ≡ addrCode M s first va
-  unfolding addrCode
-  taken-slot {v} w z = rw (← e, w, ne-eqb v 0 z)
-
--- ---- an index
-module _ (M : List ℕ) (s f i : ℕ) where
-  pub past-index : 256 ≤ i → 21 ≡ indexCode M s f i
-  unfolding indexCode
-  past-index l = rw (le-leb 256 i l)
-
-  module _ {g w : ℕ} (l : i < 256) (eg : g ≡ s + f) (ew : w ≡ frame M g i) where
-    pub free-index : w ≡ 0 → 0 ≡ indexCode M s f i
-    unfolding indexCode
-    free-index z = rw (lt-leb 256 i l, ← eg, ← ew, eq-eqb w 0 z)
-
-    pub taken-index : (w ≡ 0 → ⊥) → 7 ≡ indexCode M s f i
-    unfolding indexCode
-    taken-index z = rw (lt-leb 256 i l, ← eg, ← ew, ne-eqb w 0 z)

@@ -1,19 +1,16 @@
 -- Document 01: "A first-level page holds in words 0-255 zero or table page + 1, then zeros. A second-level slot holds zero or
 -- frame·4096 + rights", and "The walk takes the table's level and falls one level at each step". Assumes nothing.
-use Prim.Native.Nat.{ℕ, zero, suc, _+_, _*_, _/_, _%_, _^_}
-use mathlib.Core.Bool.{Bool, true, false, not, _&&_}
+use Prim.Native.Nat.{ℕ, zero, suc, _+_, _*_, _/_, _%_}
+use mathlib.Core.Bool.{Bool, not, _&&_}
 use mathlib.Core.List.{List}
 use lib.Dec.{eqb, leb}
-use Rattle.mapping.specs.Mapping.{indexOf, slotOf, rightsOf, writes}
+use Rattle.words.specs.Words.{pick}
+use Rattle.mapping.specs.Mapping.{pageBytes, addressEnd, indexOf, slotOf, rightsOf, writes}
 use Rattle.memory.specs.Memory.{frame, putWord}
 use Rattle.walk.specs.declared.Walked.{Walked}
 use Rattle.walk.specs.declared.Walked.the-variants.{At, NoTable}
 use Rattle.walk.specs.declared.Translated.{Translated}
 use Rattle.walk.specs.declared.Translated.the-variants.{Yes, No}
-
-abbrev pub pick : {A : Type 0} → Bool → A → A → A
-pick true x y = x
-pick false x y = y
 
 -- what a first-level word leads to: nothing, or the table in page p
 abbrev pub below : ℕ → (ℕ → Walked) → Walked
@@ -27,22 +24,22 @@ walk zero M s p va = NoTable
 walk (suc zero) M s p va = At p (frame M (s + p) (slotOf va))
 walk (suc (suc l)) M s p va = below (frame M (s + p) (indexOf va)) (λ q. walk (suc l) M s q va)
 
--- a slot is passed when it is not empty and, for a store, has the write right
-abbrev pub passed : Bool → Walked → Translated
-passed write NoTable = No
-passed write (At p v) = pick (eqb v 0) No (pick (write && not (writes v)) No (Yes v))
+-- a slot is allowed when it is not empty and, for a store, has the write right
+abbrev pub allowed : Bool → Walked → Translated
+allowed write NoTable = No
+allowed write (At p v) = pick (eqb v 0) No (pick (write && not (writes v)) No (Yes v))
 
 -- "For 41 and 42: not a multiple of 4, at or above 2^30, unmapped, or a store without write": a no; otherwise the slot's word
 unfoldable pub translate : List ℕ → ℕ → ℕ → ℕ → Bool → Translated
 translate M s first va write =
-    pick (not (eqb (va % 4) 0)) No (pick (leb (2 ^ 30) va) No (passed write (walk 2 M s first va)))
+    pick (not (eqb (va % 4) 0)) No (pick (leb addressEnd va) No (allowed write (walk 2 M s first va)))
 
 -- the frame that a slot names, and the word of it that an address names
 abbrev pub frameOf : ℕ → ℕ
-frameOf v = v / 4096
+frameOf v = v / pageBytes
 
 abbrev pub wordOf : ℕ → ℕ
-wordOf va = va % 4096 / 4
+wordOf va = va % pageBytes / 4
 
 -- the slot of address va filled with v (0 empties it), where it has a table
 abbrev pub filledAt : List ℕ → ℕ → ℕ → ℕ → Walked → List ℕ
@@ -54,7 +51,7 @@ filled M s first va v = filledAt M s va v (walk 2 M s first va)
 
 -- the slot that names frame f with these rights
 abbrev pub slotWord : ℕ → ℕ → ℕ
-slotWord f rights = f * 4096 + rights
+slotWord f rights = f * pageBytes + rights
 
 -- the slot of mapping word map names secure page p, with the word's rights
 unfoldable pub mapped : List ℕ → ℕ → ℕ → ℕ → ℕ → List ℕ
@@ -63,15 +60,3 @@ mapped M s first map p = filled M s first map (slotWord (s + p) (rightsOf map))
 -- first-level slot i of first-level page f names table p
 unfoldable pub linked : List ℕ → ℕ → ℕ → ℕ → ℕ → List ℕ
 linked M s f i p = putWord M (s + f) i (p + 1)
-
--- ADDR: "no table 8, slot taken 7"
-abbrev pub takenCode : Walked → ℕ
-takenCode NoTable = 8
-takenCode (At p v) = pick (eqb v 0) 0 7
-
-unfoldable pub addrCode : List ℕ → ℕ → ℕ → ℕ → ℕ
-addrCode M s first va = takenCode (walk 2 M s first va)
-
--- "i ≥ 256 21; taken 7"
-unfoldable pub indexCode : List ℕ → ℕ → ℕ → ℕ → ℕ
-indexCode M s f i = pick (leb 256 i) 21 (pick (eqb (frame M (s + f) i) 0) 0 7)

@@ -1,9 +1,12 @@
 // The walk of the page tables, and what an access and a mapping call do with it.
 
+use mapping::ADDRESS_END;
 use mapping::Mapping;
+use mapping::PAGE_BYTES;
 ghost use mathlib.Core.Path.{_≡_};
 ghost use Prim.Native.Nat.{_+_, _<_, _^_};
-ghost use Rattle.walk.specs.Walk.{walk, translate, filled, slotWord, mapped, linked, addrCode, indexCode};
+ghost use Rattle.mapping.specs.Mapping.{allRights};
+ghost use Rattle.walk.specs.Walk.{walk, translate, frameOf, wordOf, filled, slotWord, mapped, linked};
 
 // The table that has the address's slot, and what the slot holds.
 pub enum Walked {
@@ -17,8 +20,27 @@ pub enum Translated {
     No,
 }
 
+// The levels of the tables: a first-level page stands on the second.
+pub const LEVELS: u32 = 2;
+
+// The bytes of a word.
+pub const WORD_BYTES: u32 = 4;
+
+// The frame that a slot names, and the word of it that an address names.
+pub fn slot_frame(v: u32) -> usize
+    ensures { λ r. ⌜ r ≡ frameOf v ⌝ }
+{
+    (v / PAGE_BYTES) as usize
+}
+
+pub fn address_word(va: u32) -> usize
+    ensures { λ r. ⌜ r ≡ wordOf va ⌝ }
+{
+    (va % PAGE_BYTES / WORD_BYTES) as usize
+}
+
 // The frame of secure page p.
-fn frame_of(s: u32, p: u32) -> usize
+pub fn frame_of(s: u32, p: u32) -> usize
     ensures { λ r. ⌜ r ≡ s + p ⌝ }
 {
     (s as usize) + (p as usize)
@@ -46,13 +68,13 @@ pub fn walk(mem: &[u32], s: u32, p: u32, va: u32, level: u32) -> Walked
 pub fn translate(mem: &[u32], s: u32, first: u32, va: u32, write: bool) -> Translated
     ensures { λ r. ⌜ r ≡ translate (now (mem .entry)) s first va write ⌝ }
 {
-    if va % 4 != 0 {
+    if va % WORD_BYTES != 0 {
         return Translated::No;
     }
-    if 1073741824 <= va {
+    if ADDRESS_END <= va {
         return Translated::No;
     }
-    let Walked::At(_, v) = walk(mem, s, first, va, 2) else {
+    let Walked::At(_, v) = walk(mem, s, first, va, LEVELS) else {
         return Translated::No;
     };
     if v == 0 {
@@ -70,7 +92,7 @@ pub fn translate(mem: &[u32], s: u32, first: u32, va: u32, write: bool) -> Trans
 pub fn fill(mem: &mut [u32], s: u32, first: u32, va: u32, v: u32)
     ensures { λ r. ⌜ now (mem .exit) ≡ filled (now (mem .entry)) s first va v ⌝ }
 {
-    let Walked::At(p, _) = walk(mem, s, first, va, 2) else {
+    let Walked::At(p, _) = walk(mem, s, first, va, LEVELS) else {
         return;
     };
     memory::put_word(mem, frame_of(s, p), Mapping(va).slot() as usize, v);
@@ -78,10 +100,10 @@ pub fn fill(mem: &mut [u32], s: u32, first: u32, va: u32, v: u32)
 
 // The slot that names frame f with these rights.
 pub fn slot_word(f: u32, rights: u32) -> u32
-    requires { ⌜ (f < 2 ^ 20) × (rights < 8) ⌝ }
+    requires { ⌜ (f < 2 ^ 20) × (rights < allRights) ⌝ }
     ensures { λ r. ⌜ r ≡ slotWord f rights ⌝ }
 {
-    f * 4096 + rights
+    f * PAGE_BYTES + rights
 }
 
 // The slot of the mapping word names secure page p.
@@ -98,30 +120,4 @@ pub fn link(mem: &mut [u32], s: u32, f: u32, i: u32, p: u32)
     ensures { λ r. ⌜ now (mem .exit) ≡ linked (now (mem .entry)) s f i p ⌝ }
 {
     memory::put_word(mem, frame_of(s, f), i as usize, p + 1);
-}
-
-// ADDR: no table 8, slot taken 7.
-pub fn addr_code(mem: &[u32], s: u32, first: u32, map: Mapping) -> u32
-    ensures { λ r. ⌜ r ≡ addrCode (now (mem .entry)) s first (map .0) ⌝ }
-{
-    let Walked::At(_, v) = walk(mem, s, first, map.0, 2) else {
-        return 8;
-    };
-    if v == 0 {
-        return 0;
-    }
-    7
-}
-
-// An index of 256 or more 21, taken 7.
-pub fn index_code(mem: &[u32], s: u32, f: u32, i: u32) -> u32
-    ensures { λ r. ⌜ r ≡ indexCode (now (mem .entry)) s f i ⌝ }
-{
-    if 256 <= i {
-        return 21;
-    }
-    if memory::word(mem, frame_of(s, f), i as usize) == 0 {
-        return 0;
-    }
-    7
 }

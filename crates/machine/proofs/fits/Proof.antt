@@ -2,35 +2,17 @@
 use mathlib.Core.Logic.{⊎-elim, inl, inr}
 use borrow.Author.Needs.{needs}
 use native.Mathlib.Omega.{arith}
-use Rattle.machine.specs.Machine.{Fits}
+use Rattle.machine.proofs.Laws.{fitting}
 use Rattle.machine.proofs.fits.Statement.{statement}
 use Rattle.machine.proofs.fits.Tie as tie
 
 below : tie.Need-returns-10
 below c =
-    record {
-      frames-low = omega arith;
-      frames-high = omega arith;
-      pages-low = omega arith;
-      pages-high = omega arith;
-      monitors-low = omega arith;
-      secure-below = omega arith;
-      monitor-below = omega arith;
-      apart = inl (omega arith);
-    }
+    fitting _ (omega arith) (omega arith) (omega arith) (omega arith) (omega arith) (omega arith) (omega arith) (inl (omega arith))
 
 above : tie.Need-returns-11
 above c =
-    record {
-      frames-low = omega arith;
-      frames-high = omega arith;
-      pages-low = omega arith;
-      pages-high = omega arith;
-      monitors-low = omega arith;
-      secure-below = omega arith;
-      monitor-below = omega arith;
-      apart = inr (omega arith);
-    }
+    fitting _ (omega arith) (omega arith) (omega arith) (omega arith) (omega arith) (omega arith) (omega arith) (inr (omega arith))
 
 neither : tie.Need-returns-12
 neither c x = ⊎-elim (λ l. omega arith) (λ l. omega arith) (x .apart)

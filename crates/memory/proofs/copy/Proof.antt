@@ -4,9 +4,10 @@ use mathlib.Core.Path.{_≡_, refl, _∙_}
 use native.Mathlib.Omega.{arith}
 use borrow.Author.Needs.{needs}
 use lib.ListN.{length, take, length-set}
+use Rattle.words.specs.Words.{paste}
+use Rattle.words.proofs.Paste.{paste-none, paste-turn, paste-all}
 use Rattle.machine.specs.Machine.{frameWords}
-use Rattle.memory.specs.Memory.{wordsOf, paste, copied}
-use Rattle.memory.proofs.Paste.{paste-none, paste-turn, paste-all}
+use Rattle.memory.specs.Memory.{wordsOf, copied}
 use Rattle.memory.proofs.Frames.{length-wordsOf, source}
 use Rattle.memory.proofs.copy.Statement.{statement}
 use Rattle.memory.proofs.copy.Tie as tie

@@ -4,10 +4,12 @@ use mathlib.Core.Path.{_≡_, refl, sym, _∙_}
 use native.Mathlib.Omega.{arith}
 use borrow.Author.Needs.{needs}
 use lib.ListN.{length, take, length-set}
+use Rattle.words.specs.Words.{paste}
+use Rattle.words.proofs.Paste.{paste-none, paste-turn, paste-all}
+use Rattle.words.proofs.Lists.{zeros-at}
 use Rattle.machine.specs.Machine.{frameWords}
-use Rattle.memory.specs.Memory.{paste, wiped}
-use Rattle.memory.proofs.Paste.{paste-none, paste-turn, paste-all}
-use Rattle.memory.proofs.Frames.{zeros, length-zeros, zeros-at}
+use Rattle.memory.specs.Memory.{wiped}
+use Rattle.memory.proofs.Frames.{zeros, length-zeros}
 use Rattle.memory.proofs.wipe.Statement.{statement}
 use Rattle.memory.proofs.wipe.Tie as tie
 
@@ -24,7 +26,7 @@ loop-again : tie.Need-loop-again Inv-loop μ-loop
 loop-again c = (
   omega arith,
   simp length-set (omega arith),
-  paste-turn _ _ zeros _ (c .before .loop .inv .2) (sym (zeros-at (c .before .loop .k) (omega arith))) (omega arith) (omega (arith, length-zeros)),
+  paste-turn _ _ zeros _ (c .before .loop .inv .2) (sym (zeros-at frameWords (c .before .loop .k))) (omega arith) (omega (arith, length-zeros)),
 )
 
 returns : tie.Need-returns Inv-loop μ-loop

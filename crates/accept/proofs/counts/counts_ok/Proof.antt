@@ -3,8 +3,10 @@ use Prim.Native.Nat.{ℕ, _≤_, _<_, _-_}
 use mathlib.Core.Path.{_≡_, sym}
 use native.Mathlib.Omega.{arith}
 use borrow.Author.Count.{below-more}
-use Rattle.machine.proofs.Laws.{passed, refused}
-use Rattle.ledger.specs.Ledger.{space, rec, sumBelow}
+use Rattle.words.specs.Words.{sumBelow}
+use Rattle.words.proofs.Says.{passed-holds, refused-fails}
+use Rattle.ledger.specs.Names.{space}
+use Rattle.ledger.specs.Ledger.{rec}
 use Rattle.accept.specs.Accept.{counted, measured, tally}
 use Rattle.accept.specs.Checks.{Count}
 use Rattle.accept.proofs.Sums.{count-same}
@@ -28,7 +30,7 @@ returns c all =
     let l = c .before .before .before in
     let o = l .before .before .tallies .ensures .sums (l .loop .a) (omega arith) in
     let k = l .before .tallies2 .ensures .sums (l .loop .a) (omega arith) in
-    refused (c .before .count-ok .result) (c .before .count-ok .ensures) (c .if1 .taken)
+    refused-fails (c .before .count-ok .result) (c .before .count-ok .ensures) (c .if1 .taken)
     (λ e. count-same (sym o) (sym k) (all (l .loop .a) (omega arith) e))
 
 loop-again : tie.Need-loop-again Inv-loop μ-loop
@@ -38,7 +40,7 @@ loop-again c =
     let k = l .before .tallies2 .ensures .sums (l .loop .a) (omega arith) in (
       omega arith,
       below-more _ _ (l .loop .inv .1)
-          (λ e. count-same o k (passed (c .before .count-ok .result) (c .before .count-ok .ensures) (c .if1 .left) e)),
+          (λ e. count-same o k (passed-holds (c .before .count-ok .result) (c .before .count-ok .ensures) (c .if1 .left) e)),
     )
 
 returns-2 : tie.Need-returns-2 Inv-loop μ-loop

@@ -1,15 +1,14 @@
 use borrow.Author.Needs.{needs}
-use Rattle.machine.proofs.Laws.{passed, refused}
-use Rattle.accept.proofs.Answers.{says-same}
+use Rattle.words.proofs.Says.{passed-holds, refused-fails, says-same}
 use Rattle.accept.proofs.Words.{header-shown, to-zeros, from-zeros}
 use Rattle.accept.proofs.header.header_ok.Statement.{statement}
 use Rattle.accept.proofs.header.header_ok.Tie as tie
 
 nobody : tie.Need-returns
-nobody c x = refused (c .before .running-ok .result) (c .before .running-ok .ensures) (c .if1 .taken) (x .runs)
+nobody c x = refused-fails (c .before .running-ok .result) (c .before .running-ok .ensures) (c .if1 .taken) (x .runs)
 
 other-map : tie.Need-returns-2
-other-map c x = refused (c .before .map-ok .result) (c .before .map-ok .ensures) (c .if2 .taken) (x .free-map)
+other-map c x = refused-fails (c .before .map-ok .result) (c .before .map-ok .ensures) (c .if2 .taken) (x .free-map)
 
 rest : tie.Need-returns-3
 rest c =
@@ -20,8 +19,8 @@ rest c =
     says-same (c .all-zero .result)
     (λ z.
     record {
-      runs = passed (e .before .running-ok .result) (e .before .running-ok .ensures) (e .if1 .left);
-      free-map = passed (d .before .map-ok .result) (d .before .map-ok .ensures) (d .if2 .left);
+      runs = passed-holds (e .before .running-ok .result) (e .before .running-ok .ensures) (e .if1 .left);
+      free-map = passed-holds (d .before .map-ok .result) (d .before .map-ok .ensures) (d .if2 .left);
       rest = to-zeros shown 17 z;
     })
     (λ x. from-zeros shown 17 (x .rest)) (c .all-zero .ensures)

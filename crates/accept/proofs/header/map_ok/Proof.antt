@@ -3,7 +3,8 @@ use Prim.Native.Nat.{ℕ, _+_, _≤_, _<_, _-_}
 use mathlib.Core.Path.{_≡_, sym, _∙_}
 use native.Mathlib.Omega.{arith}
 use borrow.Author.Count.{below-more}
-use Rattle.ledger.specs.Ledger.{mapWords, mapStart, header, rec}
+use Rattle.machine.specs.Machine.{mapWords, mapStart}
+use Rattle.ledger.specs.Ledger.{header, rec}
 use Rattle.accept.specs.Accept.{mapWord}
 use Rattle.accept.proofs.header.map_ok.Statement.{statement}
 use Rattle.accept.proofs.header.map_ok.Tie as tie
@@ -35,5 +36,5 @@ returns-2 c j l = c .before .loop .inv .1 j (omega arith)
 pub map-ok-spec : {M : Type 1} → statement M
 map-ok-spec =
     tie.close
-    (tie.spec Inv-loop μ-loop loop-holds (λ c. omega arith) (λ c. omega arith) (λ c κs. tt) (λ c κs. omega arith) returns (λ c. omega arith)
+    (tie.spec Inv-loop μ-loop loop-holds (λ c. omega arith) (λ c. omega arith) (λ c. omega arith) (λ c κs. tt) (λ c κs. omega arith) returns (λ c. omega arith)
     (λ c. omega arith) loop-again returns-2)

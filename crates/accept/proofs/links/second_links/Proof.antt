@@ -1,8 +1,8 @@
 use mathlib.Core.Path.{sym, _∙_}
 use native.Mathlib.Omega.{arith}
 use borrow.Author.Needs.{needs}
+use Rattle.words.proofs.Says.{says-same}
 use Rattle.memory.specs.Memory.{frame}
-use Rattle.accept.proofs.Answers.{says-same}
 use Rattle.accept.proofs.Slots.{word-at, slots-same}
 use Rattle.accept.proofs.Words.{here-shown}
 use Rattle.accept.proofs.links.second_links.Statement.{statement}

@@ -3,9 +3,9 @@ use mathlib.Core.Path.{sym, _∙_}
 use mathlib.Core.Bool.{true≢false}
 use native.Mathlib.Omega.{arith}
 use borrow.Author.Needs.{needs}
+use Rattle.words.proofs.Says.{says-same}
 use Rattle.machine.proofs.Laws.{insecure-holds, holds-insecure}
 use Rattle.accept.specs.Accept.{SlotOk.empty}
-use Rattle.accept.proofs.Answers.{says-same}
 use Rattle.accept.proofs.Slots.{slot-must, slot-outside, slot-inside, insecure-must, inside-must}
 use Rattle.accept.proofs.links.slot_ok.Statement.{statement}
 use Rattle.accept.proofs.links.slot_ok.Tie as tie

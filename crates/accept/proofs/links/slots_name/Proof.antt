@@ -3,7 +3,7 @@ use Prim.Native.Nat.{ℕ, _≤_, _<_, _-_}
 use native.Mathlib.Omega.{arith}
 use lib.ListN.{getD}
 use borrow.Author.Count.{below-more}
-use Rattle.machine.proofs.Laws.{passed, refused}
+use Rattle.words.proofs.Says.{passed-holds, refused-fails}
 use Rattle.ledger.specs.Ledger.{rec}
 use Rattle.accept.specs.Checks.{Names}
 use Rattle.accept.proofs.links.slots_name.Statement.{statement}
@@ -20,12 +20,12 @@ loop-holds c = (omega arith, λ x l. absurd (omega arith))
 
 returns : tie.Need-returns Inv-loop μ-loop
 returns c all =
-    refused (c .before .slot-names .result) (c .before .slot-names .ensures) (c .if1 .taken) (all (c .before .before .before .before .loop .i) (omega arith))
+    refused-fails (c .before .slot-names .result) (c .before .slot-names .ensures) (c .if1 .taken) (all (c .before .before .before .before .loop .i) (omega arith))
 
 loop-again : tie.Need-loop-again Inv-loop μ-loop
 loop-again c = (
   omega arith,
-  below-more _ _ (c .before .before .before .before .loop .inv .1) (passed (c .before .slot-names .result) (c .before .slot-names .ensures) (c .if1 .left)),
+  below-more _ _ (c .before .before .before .before .loop .inv .1) (passed-holds (c .before .slot-names .result) (c .before .slot-names .ensures) (c .if1 .left)),
 )
 
 returns-2 : tie.Need-returns-2 Inv-loop μ-loop

@@ -3,8 +3,8 @@ use Prim.Native.Nat.{ℕ, _≤_, _<_, _-_}
 use native.Mathlib.Omega.{arith}
 use lib.ListN.{getD}
 use borrow.Author.Count.{below-more}
+use Rattle.words.proofs.Says.{passed-holds, refused-fails}
 use Rattle.machine.specs.Machine.{frameWords}
-use Rattle.machine.proofs.Laws.{passed, refused}
 use Rattle.ledger.specs.Ledger.{rec}
 use Rattle.accept.specs.Accept.{SlotOk}
 use Rattle.accept.proofs.links.slots_ok.Statement.{statement}
@@ -21,12 +21,12 @@ loop-holds c = (omega arith, λ x l. absurd (omega arith))
 
 returns : tie.Need-returns Inv-loop μ-loop
 returns c all =
-    refused (c .before .slot-ok .result) (c .before .slot-ok .ensures) (c .if1 .taken) (all (c .before .before .before .before .loop .j) (omega arith))
+    refused-fails (c .before .slot-ok .result) (c .before .slot-ok .ensures) (c .if1 .taken) (all (c .before .before .before .before .loop .j) (omega arith))
 
 loop-again : tie.Need-loop-again Inv-loop μ-loop
 loop-again c = (
   omega arith,
-  below-more _ _ (c .before .before .before .before .loop .inv .1) (passed (c .before .slot-ok .result) (c .before .slot-ok .ensures) (c .if1 .left)),
+  below-more _ _ (c .before .before .before .before .loop .inv .1) (passed-holds (c .before .slot-ok .result) (c .before .slot-ok .ensures) (c .if1 .left)),
 )
 
 returns-2 : tie.Need-returns-2 Inv-loop μ-loop

@@ -3,11 +3,10 @@ use mathlib.Core.Path.{sym, _∙_}
 use mathlib.Core.Bool.{true≢false}
 use borrow.Author.Needs.{needs}
 use borrow.Author.Tests.{not-true, not-false}
-use Rattle.machine.proofs.Laws.{passed, refused}
+use Rattle.words.proofs.Says.{passed-holds, refused-fails, says-same}
 use Rattle.ledger.specs.Ledger.{rec}
 use Rattle.memory.specs.Memory.{frame}
 use Rattle.accept.specs.Checks.{Reached}
-use Rattle.accept.proofs.Answers.{says-same}
 use Rattle.accept.proofs.Owner.{formed-is, links-none, links-says}
 use Rattle.accept.proofs.pages.data_page.Statement.{statement}
 use Rattle.accept.proofs.pages.data_page.Tie as tie
@@ -16,7 +15,7 @@ abbrev Links : tie.Start → ℕ → Type 0
 Links s a = Reached (s .args .b) (rec (s .args .led .now)) (frame (s .args .mem .now)) a (s .args .p)
 
 no-owner : tie.Need-returns
-no-owner c x = refused (c .before .owned .result) (c .before .owned .ensures) (c .if1 .taken) (x .owned)
+no-owner c x = refused-fails (c .before .owned .result) (c .before .owned .ensures) (c .if1 .taken) (x .owned)
 
 ill-formed : tie.Need-returns-2
 ill-formed c x =
@@ -30,7 +29,7 @@ ended c =
     let k = d .before .before .before .before in
     let g = k .before .before .before .before .args in
     record {
-      owned = passed (k .before .owned .result) (k .before .owned .ensures) (k .if1 .left);
+      owned = passed-holds (k .before .owned .result) (k .before .owned .ensures) (k .if1 .left);
       formed =
           formed-is (d .before .before .well-formed .ensures) (d .before .before .before .mapping-word .ensures)
           (not-false (d .before .before .well-formed .result) (d .before .if2 .left));
@@ -42,7 +41,7 @@ linked c =
     let d = c .before .before .before in
     let k = d .before .before .before .before in
     let s = k .before .before .before .before in
-    let o = passed (k .before .owned .result) (k .before .owned .ensures) (k .if1 .left) in
+    let o = passed-holds (k .before .owned .result) (k .before .owned .ensures) (k .if1 .left) in
     let f = formed-is (d .before .before .well-formed .ensures) (d .before .before .before .mapping-word .ensures)
     (not-false (d .before .before .well-formed .result) (d .before .if2 .left)) in
     says-same (c .reached .result) (λ z. record { owned = o; formed = f; links = z }) (λ x. x .links)

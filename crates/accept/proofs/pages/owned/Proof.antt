@@ -1,8 +1,8 @@
 use mathlib.Core.Path.{sym, _∙_}
 use native.Mathlib.Omega.{arith}
 use borrow.Author.Needs.{needs}
+use Rattle.words.proofs.Says.{says-same}
 use Rattle.ledger.specs.Ledger.{rec}
-use Rattle.accept.proofs.Answers.{says-same}
 use Rattle.accept.proofs.Owner.{owner-word}
 use Rattle.accept.proofs.pages.owned.Statement.{statement}
 use Rattle.accept.proofs.pages.owned.Tie as tie

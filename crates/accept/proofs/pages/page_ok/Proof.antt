@@ -3,7 +3,7 @@ use mathlib.Core.Path.{_≡_, sym, subst, _∙_}
 use mathlib.Core.Bool.{Bool}
 use native.Mathlib.Omega.{arith}
 use borrow.Author.Needs.{needs}
-use Rattle.machine.specs.Machine.{Says}
+use Rattle.words.specs.Words.{Says}
 use Rattle.ledger.specs.Ledger.{rec}
 use Rattle.memory.specs.Memory.{frame}
 use Rattle.accept.specs.Checks.{Page}

@@ -2,7 +2,7 @@
 use Prim.Native.Nat.{ℕ, _≤_, _<_, _-_}
 use native.Mathlib.Omega.{arith}
 use borrow.Author.Count.{below-more}
-use Rattle.machine.proofs.Laws.{passed, refused}
+use Rattle.words.proofs.Says.{passed-holds, refused-fails}
 use Rattle.ledger.specs.Ledger.{rec}
 use Rattle.memory.specs.Memory.{frame}
 use Rattle.accept.specs.Checks.{Page}
@@ -23,14 +23,14 @@ page-ok-requires c κs = record { lent = c .before .before .before .before .befo
 
 returns : tie.Need-returns Inv-loop μ-loop
 returns c all =
-    refused (c .before .page-ok .result) (c .before .page-ok .ensures) (c .if2 .taken)
+    refused-fails (c .before .page-ok .result) (c .before .page-ok .ensures) (c .if2 .taken)
     (all (c .before .before .before .before .loop .p) (c .before .before .if1 .taken))
 
 loop-again : tie.Need-loop-again Inv-loop μ-loop
 loop-again c = (
   omega arith,
   below-more _ _ (c .before .before .before .before .loop .inv .1)
-      (passed (c .before .page-ok .result) (c .before .page-ok .ensures) (c .if2 .left)),
+      (passed-holds (c .before .page-ok .result) (c .before .page-ok .ensures) (c .if2 .left)),
 )
 
 returns-2 : tie.Need-returns-2 Inv-loop μ-loop

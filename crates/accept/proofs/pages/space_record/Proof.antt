@@ -1,6 +1,6 @@
 use native.Mathlib.Omega.{arith}
 use borrow.Author.Needs.{needs}
-use Rattle.accept.proofs.Answers.{says-same}
+use Rattle.words.proofs.Says.{says-same}
 use Rattle.accept.proofs.pages.space_record.Statement.{statement}
 use Rattle.accept.proofs.pages.space_record.Tie as tie
 

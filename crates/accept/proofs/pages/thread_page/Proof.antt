@@ -1,18 +1,17 @@
 use native.Mathlib.Omega.{arith}
 use borrow.Author.Needs.{needs}
-use Rattle.machine.proofs.Laws.{passed, refused}
-use Rattle.accept.proofs.Answers.{says-same}
+use Rattle.words.proofs.Says.{passed-holds, refused-fails, says-same}
 use Rattle.accept.proofs.pages.thread_page.Statement.{statement}
 use Rattle.accept.proofs.pages.thread_page.Tie as tie
 
 no-owner : tie.Need-returns
-no-owner c x = refused (c .before .owned .result) (c .before .owned .ensures) (c .if1 .taken) (x .owned)
+no-owner c x = refused-fails (c .before .owned .result) (c .before .owned .ensures) (c .if1 .taken) (x .owned)
 
 thread-rules-requires : tie.Need-thread-rules-requires
-thread-rules-requires c κs = (omega arith, passed (c .before .owned .result) (c .before .owned .ensures) (c .if1 .left) .rest)
+thread-rules-requires c κs = (omega arith, passed-holds (c .before .owned .result) (c .before .owned .ensures) (c .if1 .left) .rest)
 
 broken : tie.Need-returns-2
-broken c x = refused (c .before .thread-rules .result) (c .before .thread-rules .ensures) (c .if2 .taken) (x .rules)
+broken c x = refused-fails (c .before .thread-rules .result) (c .before .thread-rules .ensures) (c .if2 .taken) (x .rules)
 
 memory : tie.Need-returns-3
 memory c =
@@ -21,8 +20,8 @@ memory c =
     says-same (c .wiped .result)
     (λ z.
     record {
-      owned = passed (e .before .owned .result) (e .before .owned .ensures) (e .if1 .left);
-      rules = passed (d .before .thread-rules .result) (d .before .thread-rules .ensures) (d .if2 .left);
+      owned = passed-holds (e .before .owned .result) (e .before .owned .ensures) (e .if1 .left);
+      rules = passed-holds (d .before .thread-rules .result) (d .before .thread-rules .ensures) (d .if2 .left);
       wiped = z;
     })
     (λ x. x .wiped) (c .wiped .ensures)

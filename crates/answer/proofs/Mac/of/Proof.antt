@@ -1,5 +1,5 @@
 use borrow.Author.Needs.{needs}
-use Rattle.answer.proofs.Laws.{listed-all}
+use Rattle.words.proofs.Lists.{listed-all}
 use Rattle.answer.proofs.Mac.of.Statement.{statement}
 use Rattle.answer.proofs.Mac.of.Tie as tie
 

@@ -1,12 +1,12 @@
 use borrow.Author.Needs.{needs}
-use Rattle.answer.proofs.Laws.{attested}
-use Rattle.enclave.specs.Calls.{attest}
+use Rattle.enclave.proofs.Steps.{mac-given}
 use Rattle.enclave.proofs.attesting.attest.Statement.{statement}
 use Rattle.enclave.proofs.attesting.attest.Tie as tie
 
 returns : tie.Need-returns
-unfolding attest
-returns c M = cc (attested (c .of .ensures))
+returns c M =
+    let h = c .before .before .before in
+    mac-given M _ _ (h .before .running-owner .ensures) (h .hash-words .ensures) (c .before .mac-of .ensures) (c .of .ensures)
 
 pub attest-spec : {M : Type 1} → statement M
 attest-spec =

@@ -1,11 +1,10 @@
 use mathlib.Core.Path.{refl}
-use Rattle.answer.specs.Answer.{numbers}
 use Rattle.enclave.specs.Calls.{getRandom}
 use Rattle.enclave.proofs.attesting.get_random.Statement.{statement}
 use Rattle.enclave.proofs.attesting.get_random.Tie as tie
 
 returns : tie.Need-returns
-unfolding getRandom numbers
+unfolding getRandom
 returns c M L = refl
 
 pub get-random-spec : {M : Type 1} → statement M

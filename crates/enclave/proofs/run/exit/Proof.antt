@@ -1,11 +1,10 @@
 use borrow.Author.Needs.{needs}
-use Rattle.answer.specs.Answer.{numbers}
 use Rattle.enclave.specs.Calls.{exit}
 use Rattle.enclave.proofs.run.exit.Statement.{statement}
 use Rattle.enclave.proofs.run.exit.Tie as tie
 
 returns : tie.Need-returns
-unfolding exit numbers
+unfolding exit
 returns c M = cc
 
 pub exit-spec : {M : Type 1} → statement M

@@ -1,11 +1,10 @@
 use borrow.Author.Needs.{needs}
-use Rattle.answer.specs.Answer.{numbers}
 use Rattle.enclave.specs.Calls.{fault}
 use Rattle.enclave.proofs.run.fault.Statement.{statement}
 use Rattle.enclave.proofs.run.fault.Tie as tie
 
 returns : tie.Need-returns
-unfolding fault numbers
+unfolding fault
 returns c M = cc
 
 pub fault-spec : {M : Type 1} → statement M

@@ -11,9 +11,10 @@ returns c =
 
 returns-2 : tie.Need-returns-2
 returns-2 c =
-    let v = c .before .before in
+    let v = c .before .before .before .before in
     let t = v .before .before in
-    load-reads _ _ _ _ (t .before .first-page .ensures) (t .translate .ensures) (v .v .given .1) (c .word .ensures)
+    load-reads _ _ _ _ (t .before .first-page .ensures) (t .translate .ensures) (v .v .given .1) (c .before .before .slot-frame .ensures)
+    (c .before .address-word .ensures) (c .word .ensures)
 
 pub load-spec : {M : Type 1} → statement M
 load-spec =

@@ -11,9 +11,11 @@ returns c =
 
 returns-2 : tie.Need-returns-2
 returns-2 c =
-    let v = c .before .before .before .before .before in
+    let w = c .before .before in
+    let v = w .before .before .before .before .before in
     let t = v .before .before in
-    store-writes _ _ _ _ (t .before .first-page .ensures) _ (t .translate .ensures) (v .v .given .1) (c .before .before .put-word .ensures)
+    store-writes _ _ _ _ (t .before .first-page .ensures) _ (t .translate .ensures) (v .v .given .1) (w .before .before .slot-frame .ensures)
+    (w .before .address-word .ensures) (w .put-word .ensures)
 
 pub store-spec : {M : Type 1} → statement M
 store-spec =

@@ -1,5 +1,5 @@
 use borrow.Author.Needs.{needs}
-use Rattle.answer.proofs.Checks.{either-of, refuse-eq}
+use Rattle.words.proofs.Codes.{either-of, refuse-eq}
 use Rattle.system.specs.Calls.{allocSpareCode}
 use Rattle.system.proofs.building.alloc_spare_code.Statement.{statement}
 use Rattle.system.proofs.building.alloc_spare_code.Tie as tie

@@ -1,11 +1,12 @@
 use borrow.Author.Needs.{needs}
-use Rattle.answer.proofs.Checks.{either-of}
+use Rattle.words.proofs.Codes.{either-of}
 use Rattle.system.specs.Calls.{initAddrSpaceCode}
+use Rattle.system.specs.Parts.{twoFreeCode}
 use Rattle.system.proofs.building.init_addr_space_code.Statement.{statement}
 use Rattle.system.proofs.building.init_addr_space_code.Tie as tie
 
 returns : tie.Need-returns
-unfolding initAddrSpaceCode
+unfolding initAddrSpaceCode twoFreeCode
 returns c =
     let x = c .before .before in
     either-of (c .either2 .ensures) (x .before .before .before .refuse .ensures)

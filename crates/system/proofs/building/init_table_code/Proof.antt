@@ -1,5 +1,5 @@
 use borrow.Author.Needs.{needs}
-use Rattle.answer.proofs.Checks.{either-of}
+use Rattle.words.proofs.Codes.{either-of}
 use Rattle.system.specs.Calls.{initTableCode}
 use Rattle.system.proofs.Steps.{index-of}
 use Rattle.system.proofs.building.init_table_code.Statement.{statement}

@@ -1,5 +1,5 @@
 use borrow.Author.Needs.{needs}
-use Rattle.answer.proofs.Checks.{either-of}
+use Rattle.words.proofs.Codes.{either-of}
 use Rattle.system.specs.Calls.{initThreadCode}
 use Rattle.system.proofs.building.init_thread_code.Statement.{statement}
 use Rattle.system.proofs.building.init_thread_code.Tie as tie

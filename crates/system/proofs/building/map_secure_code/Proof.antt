@@ -1,12 +1,13 @@
 use borrow.Author.Needs.{needs}
-use Rattle.answer.proofs.Checks.{either-of, refuse-not}
+use Rattle.words.proofs.Codes.{either-of, refuse-not}
 use Rattle.system.specs.Calls.{mapSecureCode}
+use Rattle.system.specs.Parts.{placeCode}
 use Rattle.system.proofs.Steps.{place-of}
 use Rattle.system.proofs.building.map_secure_code.Statement.{statement}
 use Rattle.system.proofs.building.map_secure_code.Tie as tie
 
 returns : tie.Need-returns
-unfolding mapSecureCode
+unfolding mapSecureCode placeCode
 returns c =
     let x = c .before .before .before in
     let y = x .before .before in

@@ -7,7 +7,7 @@ returns : tie.Need-returns
 returns c =
     let x = c .before .before in
     let y = x .before .before .before .before in
-    new-data-is _ _ _ _ _ (y .before .before .before .before .enter-data .ensures) (y .gain-page .ensures) (x .add-blocks .ensures)
+    new-data-is _ _ _ _ _ (y .before .before .before .before .occupy-data .ensures) (y .gain-page .ensures) (x .add-blocks .ensures)
 
 pub new-data-spec : {M : Type 1} → statement M
 new-data-spec =

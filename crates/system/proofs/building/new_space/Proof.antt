@@ -7,7 +7,7 @@ returns : tie.Need-returns
 returns c =
     let x = c .before .before in
     let y = x .before .before .before .before in
-    new-space-is _ _ _ (y .before .start .ensures) (y .enter-space .ensures) (x .enter-page .ensures)
+    new-space-is _ _ _ (y .before .start .ensures) (y .occupy-space .ensures) (x .occupy-page .ensures)
 
 pub new-space-spec : {M : Type 1} → statement M
 new-space-spec =

@@ -9,7 +9,7 @@ returns c =
     let y = x .before .before .before .before in
     let z = y .before .before .before .before in
     let h = z .before .before in
-    new-thread-is _ _ _ _ (h .before .hash-words .ensures) (h .add-thread .ensures) (z .enter-page .ensures) (y .gain-page .ensures) (x .add-blocks .ensures)
+    new-thread-is _ _ _ _ (h .before .hash-words .ensures) (h .add-thread .ensures) (z .occupy-page .ensures) (y .gain-page .ensures) (x .add-blocks .ensures)
 
 pub new-thread-spec : {M : Type 1} → statement M
 new-thread-spec =

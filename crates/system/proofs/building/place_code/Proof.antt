@@ -1,6 +1,6 @@
 use borrow.Author.Needs.{needs}
-use Rattle.answer.proofs.Checks.{either-of, refuse-not}
-use Rattle.system.specs.Calls.{placeCode}
+use Rattle.words.proofs.Codes.{either-of, refuse-not}
+use Rattle.system.specs.Parts.{placeCode}
 use Rattle.system.proofs.building.place_code.Statement.{statement}
 use Rattle.system.proofs.building.place_code.Tie as tie
 

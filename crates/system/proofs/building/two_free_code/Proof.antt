@@ -1,6 +1,6 @@
 use borrow.Author.Needs.{needs}
-use Rattle.answer.proofs.Checks.{either-of, refuse-ne}
-use Rattle.system.specs.Calls.{twoFreeCode}
+use Rattle.words.proofs.Codes.{either-of, refuse-ne}
+use Rattle.system.specs.Parts.{twoFreeCode}
 use Rattle.system.proofs.building.two_free_code.Statement.{statement}
 use Rattle.system.proofs.building.two_free_code.Tie as tie
 

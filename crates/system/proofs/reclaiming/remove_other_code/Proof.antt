@@ -1,5 +1,5 @@
 use borrow.Author.Needs.{needs}
-use Rattle.answer.proofs.Checks.{refuse-ne}
+use Rattle.words.proofs.Codes.{refuse-ne}
 use Rattle.system.proofs.Steps.{owner-state, other-spare, other-owned}
 use Rattle.system.proofs.reclaiming.remove_other_code.Statement.{statement}
 use Rattle.system.proofs.reclaiming.remove_other_code.Tie as tie

@@ -1,5 +1,5 @@
 use borrow.Author.Needs.{needs}
-use Rattle.answer.proofs.Checks.{either-of, refuse-ne}
+use Rattle.words.proofs.Codes.{either-of, refuse-ne}
 use Rattle.system.specs.Calls.{removeSpaceCode}
 use Rattle.system.proofs.reclaiming.remove_space_code.Statement.{statement}
 use Rattle.system.proofs.reclaiming.remove_space_code.Tie as tie

@@ -1,5 +1,5 @@
 use borrow.Author.Needs.{needs}
-use Rattle.answer.proofs.Checks.{either-of, refuse-ne}
+use Rattle.words.proofs.Codes.{either-of, refuse-ne}
 use Rattle.system.specs.Calls.{enterCode}
 use Rattle.system.proofs.running.enter_code.Statement.{statement}
 use Rattle.system.proofs.running.enter_code.Tie as tie

@@ -1,5 +1,5 @@
 use borrow.Author.Needs.{needs}
-use Rattle.answer.proofs.Checks.{either-of, refuse-eq}
+use Rattle.words.proofs.Codes.{either-of, refuse-eq}
 use Rattle.system.specs.Calls.{resumeCode}
 use Rattle.system.proofs.running.resume_code.Statement.{statement}
 use Rattle.system.proofs.running.resume_code.Tie as tie

@@ -1,5 +1,5 @@
 use borrow.Author.Needs.{needs}
-use Rattle.answer.proofs.Checks.{either-of, refuse-ne}
+use Rattle.words.proofs.Codes.{either-of, refuse-ne}
 use Rattle.system.specs.Calls.{threadCode}
 use Rattle.system.proofs.Steps.{owner-state}
 use Rattle.system.proofs.running.thread_code.Statement.{statement}

@@ -1,6 +1,0 @@
-use Rattle.answer.proofs.Laws.{or-first, or-second}
-use Rattle.answer.proofs.either.Statement.{statement}
-use Rattle.answer.proofs.either.Tie as tie
-
-pub either-spec : {M : Type 1} → statement M
-either-spec = tie.close (tie.spec (λ c. or-first _ _ (c .if1 .taken)) (λ c. or-second _ _ (c .if1 .left)))

@@ -1,0 +1,90 @@
+// A host that calls every exported function with whatever it has: each asks nothing, and each ensures its relation. An exported function
+// that asked for anything, or ensured less, would leave one of these unproved.
+
+ghost use mathlib.Core.Path.{_≡_};
+ghost use mathlib.Core.Bool.{_&&_, cond};
+ghost use Prim.Native.Nat.{_%_};
+ghost use lib.Dec.{eqb, leb};
+ghost use lib.ListN.{length};
+ghost use Rattle.machine.specs.Machine.{machineOf};
+ghost use Rattle.sha256.specs.Sha256.{absorb, sha256};
+ghost use Rattle.sha256.specs.Hmac.{hmac};
+ghost use Rattle.accept.specs.Accept.{Accepts};
+ghost use Rattle.batch.specs.Service.{Batched};
+ghost use Rattle.boot.specs.Boot.{Booted};
+
+pub fn monitor_boot(
+    frames: u32,
+    secure: u32,
+    pages: u32,
+    monitor: u32,
+    monitors: u32,
+    key: &[u32],
+    mem: &mut [u32],
+    led: &mut [u32],
+) -> u32
+    ensures { λ r. ⌜ Booted (machineOf frames secure pages monitor monitors) (now (key .entry)) (now (mem .entry)) (now (led .entry)) r (now (mem .exit)) (now (led .exit)) ⌝ }
+{
+    monitor::monitor_boot(frames, secure, pages, monitor, monitors, key, mem, led)
+}
+
+pub fn monitor_accepts(
+    frames: u32,
+    secure: u32,
+    pages: u32,
+    monitor: u32,
+    monitors: u32,
+    mem: &[u32],
+    led: &[u32],
+) -> bool
+    ensures { λ r. ⌜ Accepts (machineOf frames secure pages monitor monitors) (now (mem .entry)) (now (led .entry)) r ⌝ }
+{
+    monitor::monitor_accepts(frames, secure, pages, monitor, monitors, mem, led)
+}
+
+pub fn monitor_batch(
+    frames: u32,
+    secure: u32,
+    pages: u32,
+    monitor: u32,
+    monitors: u32,
+    mem: &mut [u32],
+    led: &mut [u32],
+    calls: &[u32],
+    answers: &mut [u32],
+) -> u32
+    ensures { λ r. ⌜ Batched (machineOf frames secure pages monitor monitors) (now (mem .entry)) (now (led .entry)) (now (calls .entry)) (now (answers .entry)) r (now (mem .exit)) (now (led .exit)) (now (answers .exit)) ⌝ }
+{
+    monitor::monitor_batch(
+        frames,
+        secure,
+        pages,
+        monitor,
+        monitors,
+        mem,
+        led,
+        calls,
+        answers,
+    )
+}
+
+pub fn sha256_absorb(state: &mut [u32], words: &[u32]) -> bool
+    ensures { λ r. ⌜ r ≡ (eqb (length (now (state .entry))) 8 && eqb (length (now (words .entry)) % 16) 0) ⌝ }
+    ensures { λ r. ⌜ now (state .exit) ≡ cond r (absorb (now (state .entry)) (now (words .entry))) (now (state .entry)) ⌝ }
+{
+    sha256_host::sha256_absorb(state, words)
+}
+
+pub fn sha256_digest(words: &[u32], out: &mut [u32]) -> bool
+    ensures { λ r. ⌜ r ≡ eqb (length (now (out .entry))) 8 ⌝ }
+    ensures { λ r. ⌜ now (out .exit) ≡ cond r (sha256 (now (words .entry))) (now (out .entry)) ⌝ }
+{
+    sha256_host::sha256_digest(words, out)
+}
+
+pub fn sha256_hmac(key: &[u32], text: &[u32], out: &mut [u32]) -> bool
+    ensures { λ r. ⌜ r ≡ (leb (length (now (key .entry))) 16 && eqb (length (now (out .entry))) 8) ⌝ }
+    ensures { λ r. ⌜ now (out .exit) ≡ cond r (hmac (now (key .entry)) (now (text .entry))) (now (out .entry)) ⌝ }
+{
+    sha256_host::sha256_hmac(key, text, out)
+}

@@ -1,0 +1,19 @@
+-- The frame theorem (everything about every other space follows from what one space's step does), and a layer for each kind of step.
+pub mod Frame
+pub mod Turn
+pub mod Touch
+pub mod Fill
+pub mod Data
+pub mod Link
+pub mod Empty
+pub mod NewSpace
+pub mod Contents
+pub mod Run
+pub mod Alloc
+pub mod Convert
+pub mod Become
+pub mod Vacate
+pub mod Lose
+pub mod Close
+pub mod Settle
+pub mod Rewrite

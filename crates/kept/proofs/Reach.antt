@@ -1,0 +1,3 @@
+-- What a running enclave reaches by loads and stores.
+pub mod Isolation
+pub mod Access

@@ -1,0 +1,12 @@
+use borrow.Author.Needs.{needs}
+use Rattle.ledger.proofs.hash.key_words.Statement.{statement}
+use Rattle.ledger.proofs.hash.key_words.Tie as tie
+
+returns : tie.Need-returns
+returns c = cc
+
+pub key-words-spec : {M : Type 1} → statement M
+key-words-spec =
+    tie.close
+    (tie.spec (λ c κs. search needs) (λ c κs. search needs) (λ c κs. search needs) (λ c κs. search needs)
+    (λ c κs. search needs) (λ c κs. search needs) (λ c κs. search needs) (λ c κs. search needs) returns)

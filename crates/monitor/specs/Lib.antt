@@ -1,4 +1,0 @@
-pub mod Boot
-pub mod Batch
-pub mod Turns
-pub mod Services
