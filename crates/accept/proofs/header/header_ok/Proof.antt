@@ -1,5 +1,7 @@
+use Prim.Native.Nat.{_+_}
 use borrow.Author.Needs.{needs}
 use Rattle.words.proofs.Says.{passed-holds, refused-fails, says-same}
+use Rattle.machine.specs.Machine.{mapStart, mapWords}
 use Rattle.accept.proofs.Words.{header-shown, to-zeros, from-zeros}
 use Rattle.accept.proofs.header.header_ok.Statement.{statement}
 use Rattle.accept.proofs.header.header_ok.Tie as tie
@@ -21,9 +23,9 @@ rest c =
     record {
       runs = passed-holds (e .before .running-ok .result) (e .before .running-ok .ensures) (e .if1 .left);
       free-map = passed-holds (d .before .map-ok .result) (d .before .map-ok .ensures) (d .if2 .left);
-      rest = to-zeros shown 17 z;
+      rest = to-zeros shown (mapStart + mapWords) z;
     })
-    (λ x. from-zeros shown 17 (x .rest)) (c .all-zero .ensures)
+    (λ x. from-zeros shown (mapStart + mapWords) (x .rest)) (c .all-zero .ensures)
 
 pub header-ok-spec : {M : Type 1} → statement M
 header-ok-spec =
