@@ -139,12 +139,12 @@ pub ledger-made : {L K J ms : List ℕ} (b : Machine) (key : List ℕ) (N : ℕ)
     → J ≡ freshLedger b key
 unfolding freshLedger
 ledger-made {K} {ms} b key N eight e l k m j =
-    let Z : List ℕ = replicate 8 0 in
+    let Z : List ℕ = replicate mapWords 0 in
     let R : List ℕ = replicate (rest b key eight) 0 in
     let keyed : K ≡ 0 ∷ key ++ (Z ++ R) =
     k
     ∙ ap (λ (x : List ℕ). paste x 1 (length key) key) (l ∙ zeros-split N (rest b key eight) (omega arith))
-    ∙ between (0 ∷ []) Z (Z ++ R) key 1 (length key) refl (sym eight) in
+    ∙ between (0 ∷ []) (replicate 8 0) (Z ++ R) key 1 (length key) refl (sym eight) in
     j
     ∙ ap (λ (x : List ℕ). paste x mapStart (length ms) ms) keyed
     ∙ between (0 ∷ key) Z R ms mapStart (length ms) (nine b key eight) (sym (ap length m ∙ length-maps b key eight))

@@ -64,16 +64,13 @@ fn fresh_map(b: Machine, j: u32) -> u32
 fn fresh_maps(b: Machine) -> [u32; MAP_WORDS]
     ensures { λ r. ⌜ r ≡ listBelow mapWords (freshMap b) ⌝ }
 {
-    [
-        fresh_map(b, 0),
-        fresh_map(b, 1),
-        fresh_map(b, 2),
-        fresh_map(b, 3),
-        fresh_map(b, 4),
-        fresh_map(b, 5),
-        fresh_map(b, 6),
-        fresh_map(b, 7),
-    ]
+    let mut maps = [0u32; MAP_WORDS];
+    let mut j: u32 = 0;
+    while (j as usize) < MAP_WORDS {
+        maps[j as usize] = fresh_map(b, j);
+        j += 1;
+    }
+    maps
 }
 
 // Nobody runs, the key, all pages free.
