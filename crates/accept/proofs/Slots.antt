@@ -1,7 +1,8 @@
 -- What a slot's value says, taken apart as the code takes it. Assumes nothing.
-use Prim.Native.Nat.{ℕ, _+_, _-_, _/_, _%_, _<_}
+use Prim.Native.Nat.{ℕ, _+_, _-_, _/_, _%_, _≤_, _<_}
 use mathlib.Core.Path.{_≡_, refl, subst}
 use mathlib.Core.Logic.{_⊎_, inl, inr, ⊎-elim}
+use native.Mathlib.Decide.{decLt}
 use native.Mathlib.Omega.{arith}
 use Rattle.machine.specs.declared.Machine.{Machine}
 use Rattle.machine.specs.Machine.{Insecure}
@@ -20,7 +21,7 @@ module _ {b : Machine} {w : Words} {a i v : ℕ} (full : v ≡ 0 → ⊥) where
   names-table is e =
       record { table = λ T x. let t : v - 1 ≡ T = omega arith in (rw t at is, rw t at e) }
 
--- ---- a second-level slot that is not empty
+-- ---- a second-level slot that is not empty, and one that is
 pub record Slot (b : Machine) (w : Words) (a i j f r : ℕ) : Type 0 where
   pub small : r < 8
   pub reads : r % 2 ≡ 1
@@ -33,6 +34,9 @@ whole : (v : ℕ) → slotWord (v / 4096) (v % 4096) ≡ v
 whole v = omega arith
 
 module _ {b : Machine} {w : Words} {a i j : ℕ} where
+  pub slot-empty : {v : ℕ} → v ≡ 0 → SlotOk b w a i j v
+  slot-empty e = rw e empty
+
   pub slot-must : {v : ℕ} → (v ≡ 0 → ⊥) → SlotOk b w a i j v → Slot b w a i j (v / 4096) (v % 4096)
   slot-must full empty = absurd (full refl)
   slot-must {v} full (outside f r is l o) =
@@ -61,6 +65,14 @@ module _ {b : Machine} {w : Words} {a i j : ℕ} where
 
   pub inside-must : {f r : ℕ} → Slot b w a i j f r → (Insecure b f → ⊥) → Inside b w a i j f r
   inside-must s n = ⊎-elim (λ x. absurd (n (x .0))) (λ x. x) (s .where-to)
+
+-- what holds below f and from f on for n numbers holds below f + n
+pub stretch-more : {P : ℕ → Type 0} (f n : ℕ) → ((x : ℕ) → x < f → P x) → ((x : ℕ) → f ≤ x → x < f + n → P x) → (x : ℕ) → x < f + n → P x
+stretch-more {P} f n low high x l = go (decLt x f)
+  where
+    go : Dec (x < f) → P x
+    go (yes h) = low x h
+    go (no h) = high x (omega arith) l
 
 -- ---- a word of a page that is named by words read before
 pub word-at : (m : Words) (s : ℕ) {v f g i k : ℕ} → v ≡ m (s + f) i → f ≡ g → i ≡ k → v ≡ m (s + g) k

@@ -57,6 +57,10 @@ pub record Inside (b : Machine) (w : Words) (a i j f r : ℕ) : Type 0 where
   pub page : Is b w a dataPage (f - b .secure)
   pub map : w (f - b .secure) mappingWord ≡ mappingOf i j r
 
+-- the slots of a table that are looked at together
+abbrev pub stretch : ℕ
+stretch = 32
+
 pub record FirstLinks (b : Machine) (w m : Words) (a p : ℕ) : Type 0 where
   pub only : w a firstWord ≡ p
   pub names : (i : ℕ) → i < mostTables → Names b w a i (m (b .secure + p) i)

@@ -29,7 +29,7 @@ ghost use Rattle.ledger.specs.Ledger.{rec};
 ghost use Rattle.ledger.specs.Names.{indexWord};
 ghost use Rattle.memory.specs.Memory.{frame, wordsOf};
 ghost use Rattle.accept.specs.Accept.{Is, SlotOk};
-ghost use Rattle.accept.specs.Checks.{Here, Names, Inside, FirstLinks, SecondLinks, Reached};
+ghost use Rattle.accept.specs.Checks.{Here, Names, Inside, FirstLinks, SecondLinks, Reached, stretch};
 
 // The words of secure page p.
 pub fn page_words(b: Machine, mem: &[u32], p: u32) -> &[u32]
@@ -139,17 +139,48 @@ fn slot_ok(b: Machine, led: &[u32], a: u32, i: u32, j: u32, held: u32) -> bool
     inside(b, led, a, i, j, f, rights)
 }
 
+// The slots of a table that are looked at together.
+const STRETCH: u32 = 32;
+
+// Are the slots of a stretch empty?
+fn stretch_empty(page: &[u32], from: u32) -> bool
+    requires { ⌜ from + stretch ≤ length (now page) ⌝ }
+    ensures { λ r. ⌜ Says r ((j : ℕ) → from ≤ j → j < from + stretch → getD (now (page .entry)) j 0 ≡ 0) ⌝ }
+{
+    let start = from as usize;
+    let end = start + (STRETCH as usize);
+    all_zero(&page[start..end], 0)
+}
+
+// May the slots of a stretch hold what they do? (Most stretches are empty, which is seen at once.)
+fn stretch_ok(b: Machine, led: &[u32], a: u32, i: u32, page: &[u32], from: u32) -> bool
+    requires { ⌜ (i < mostTables) × (length (now page) ≡ frameWords) × (from + stretch ≤ frameWords) ⌝ }
+    ensures { λ r. ⌜ Says r ((j : ℕ) → from ≤ j → j < from + stretch → SlotOk b (rec (now (led .entry))) a i j (getD (now (page .entry)) j 0)) ⌝ }
+{
+    if stretch_empty(page, from) {
+        return true;
+    }
+    let mut j = from;
+    while j < from + STRETCH {
+        if !slot_ok(b, led, a, i, j, page[j as usize]) {
+            return false;
+        }
+        j += 1;
+    }
+    true
+}
+
 // May all of them?
 fn slots_ok(b: Machine, led: &[u32], a: u32, i: u32, page: &[u32]) -> bool
     requires { ⌜ (i < mostTables) × (length (now page) ≡ frameWords) ⌝ }
     ensures { λ r. ⌜ Says r ((j : ℕ) → j < frameWords → SlotOk b (rec (now (led .entry))) a i j (getD (now (page .entry)) j 0)) ⌝ }
 {
-    let mut j: u32 = 0;
-    while j < SLOTS {
-        if !slot_ok(b, led, a, i, j, page[j as usize]) {
+    let mut from: u32 = 0;
+    while from < SLOTS {
+        if !stretch_ok(b, led, a, i, page, from) {
             return false;
         }
-        j += 1;
+        from += STRETCH;
     }
     true
 }
