@@ -13,7 +13,7 @@ use ledger::TYPE;
 use ledger::word;
 use machine::MOST_PAGES;
 ghost use mathlib.Core.Path.{_≡_};
-ghost use Prim.Native.Nat.{ℕ, _≤_};
+ghost use Prim.Native.Nat.{ℕ, _<_, _≤_};
 ghost use lib.ListN.{length, getD};
 ghost use Rattle.words.specs.Words.{Says};
 ghost use Rattle.machine.specs.Machine.{mostPages};
@@ -91,14 +91,32 @@ fn count_ok(n: u32, led: &[u32], a: u32, owned: u32, blocks: u32) -> bool
     true
 }
 
-// Are every space's counts right?
+// The lowest address space, or n where there is none.
+fn first_space(n: u32, led: &[u32]) -> u32
+    ensures { λ r. ⌜ (r ≤ n) × ((a : ℕ) → a < r → rec (now (led .entry)) a typeWord ≡ space → ⊥) ⌝ }
+{
+    let mut a: u32 = 0;
+    while a < n {
+        if word(led, a, TYPE) == SPACE {
+            return a;
+        }
+        a += 1;
+    }
+    n
+}
+
+// Are every space's counts right? (Where there is no space there is nothing to count.)
 pub fn counts_ok(n: u32, led: &[u32]) -> bool
     requires { ⌜ n ≤ mostPages ⌝ }
     ensures { λ r. ⌜ Says r (Counts n (rec (now (led .entry)))) ⌝ }
 {
+    let first = first_space(n, led);
+    if first == n {
+        return true;
+    }
     let owned = tallies(n, led, false);
     let blocks = tallies(n, led, true);
-    let mut a: u32 = 0;
+    let mut a = first;
     while a < n {
         if !count_ok(n, led, a, owned[a as usize], blocks[a as usize]) {
             return false;
