@@ -12,7 +12,10 @@ use Rattle.walk.specs.Walk.{slotWord}
 use Rattle.accept.specs.Accept.{Words, Is, SlotOk, SlotOk.empty, SlotOk.outside, SlotOk.inside}
 use Rattle.accept.specs.Checks.{Names, Inside, Reached}
 
--- ---- a first-level slot that is not empty
+-- ---- a first-level slot that is empty, and one that is not
+pub names-empty : {b : Machine} {w : Words} {a i v : ℕ} → v ≡ 0 → Names b w a i v
+names-empty e = record { table = λ T x. absurd (omega arith) }
+
 module _ {b : Machine} {w : Words} {a i v : ℕ} (full : v ≡ 0 → ⊥) where
   pub names-must : Names b w a i v → Is b w a secondLevel (v - 1) × (w (v - 1) 2 ≡ i)
   names-must n = n .table (v - 1) (omega arith)
@@ -21,7 +24,7 @@ module _ {b : Machine} {w : Words} {a i v : ℕ} (full : v ≡ 0 → ⊥) where
   names-table is e =
       record { table = λ T x. let t : v - 1 ≡ T = omega arith in (rw t at is, rw t at e) }
 
--- ---- a second-level slot that is not empty, and one that is
+-- ---- a second-level slot that is not empty
 pub record Slot (b : Machine) (w : Words) (a i j f r : ℕ) : Type 0 where
   pub small : r < 8
   pub reads : r % 2 ≡ 1
@@ -34,6 +37,7 @@ whole : (v : ℕ) → slotWord (v / 4096) (v % 4096) ≡ v
 whole v = omega arith
 
 module _ {b : Machine} {w : Words} {a i j : ℕ} where
+  -- and one that is
   pub slot-empty : {v : ℕ} → v ≡ 0 → SlotOk b w a i j v
   slot-empty e = rw e empty
 

@@ -57,7 +57,7 @@ pub record Inside (b : Machine) (w : Words) (a i j f r : ℕ) : Type 0 where
   pub page : Is b w a dataPage (f - b .secure)
   pub map : w (f - b .secure) mappingWord ≡ mappingOf i j r
 
--- the slots of a table that are looked at together
+-- the slots of a first-level page or of a table that are looked at together
 abbrev pub stretch : ℕ
 stretch = 32
 

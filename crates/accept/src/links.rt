@@ -64,6 +64,19 @@ pub fn is_page(b: Machine, led: &[u32], a: u32, t: u32, q: u32) -> bool
     true
 }
 
+// The slots of a first-level page or of a table that are looked at together.
+const STRETCH: u32 = 32;
+
+// Are the slots of a stretch empty?
+fn stretch_empty(page: &[u32], from: u32) -> bool
+    requires { ⌜ from + stretch ≤ length (now page) ⌝ }
+    ensures { λ r. ⌜ Says r ((j : ℕ) → from ≤ j → j < from + stretch → getD (now (page .entry)) j 0 ≡ 0) ⌝ }
+{
+    let start = from as usize;
+    let end = start + (STRETCH as usize);
+    all_zero(&page[start..end], 0)
+}
+
 // May slot i of a's first-level page hold v: zero, or page + 1 of a table of a's with index i?
 fn slot_names(b: Machine, led: &[u32], a: u32, i: u32, v: u32) -> bool
     ensures { λ r. ⌜ Says r (Names b (rec (now (led .entry))) a i v) ⌝ }
@@ -81,17 +94,35 @@ fn slot_names(b: Machine, led: &[u32], a: u32, i: u32, v: u32) -> bool
     true
 }
 
+// May the slots of a stretch? (Most stretches are empty, which is seen at once.)
+fn stretch_names(b: Machine, led: &[u32], a: u32, page: &[u32], from: u32) -> bool
+    requires { ⌜ (length (now page) ≡ frameWords) × (from + stretch ≤ mostTables) ⌝ }
+    ensures { λ r. ⌜ Says r ((i : ℕ) → from ≤ i → i < from + stretch → Names b (rec (now (led .entry))) a i (getD (now (page .entry)) i 0)) ⌝ }
+{
+    if stretch_empty(page, from) {
+        return true;
+    }
+    let mut i = from;
+    while i < from + STRETCH {
+        if !slot_names(b, led, a, i, page[i as usize]) {
+            return false;
+        }
+        i += 1;
+    }
+    true
+}
+
 // May all of them?
 fn slots_name(b: Machine, led: &[u32], a: u32, page: &[u32]) -> bool
     requires { ⌜ length (now page) ≡ frameWords ⌝ }
     ensures { λ r. ⌜ Says r ((i : ℕ) → i < mostTables → Names b (rec (now (led .entry))) a i (getD (now (page .entry)) i 0)) ⌝ }
 {
-    let mut i: u32 = 0;
-    while i < MOST_TABLES {
-        if !slot_names(b, led, a, i, page[i as usize]) {
+    let mut from: u32 = 0;
+    while from < MOST_TABLES {
+        if !stretch_names(b, led, a, page, from) {
             return false;
         }
-        i += 1;
+        from += STRETCH;
     }
     true
 }
@@ -139,20 +170,7 @@ fn slot_ok(b: Machine, led: &[u32], a: u32, i: u32, j: u32, held: u32) -> bool
     inside(b, led, a, i, j, f, rights)
 }
 
-// The slots of a table that are looked at together.
-const STRETCH: u32 = 32;
-
-// Are the slots of a stretch empty?
-fn stretch_empty(page: &[u32], from: u32) -> bool
-    requires { ⌜ from + stretch ≤ length (now page) ⌝ }
-    ensures { λ r. ⌜ Says r ((j : ℕ) → from ≤ j → j < from + stretch → getD (now (page .entry)) j 0 ≡ 0) ⌝ }
-{
-    let start = from as usize;
-    let end = start + (STRETCH as usize);
-    all_zero(&page[start..end], 0)
-}
-
-// May the slots of a stretch hold what they do? (Most stretches are empty, which is seen at once.)
+// May the slots of a stretch?
 fn stretch_ok(b: Machine, led: &[u32], a: u32, i: u32, page: &[u32], from: u32) -> bool
     requires { ⌜ (i < mostTables) × (length (now page) ≡ frameWords) × (from + stretch ≤ frameWords) ⌝ }
     ensures { λ r. ⌜ Says r ((j : ℕ) → from ≤ j → j < from + stretch → SlotOk b (rec (now (led .entry))) a i j (getD (now (page .entry)) j 0)) ⌝ }
