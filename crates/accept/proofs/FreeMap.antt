@@ -1,6 +1,6 @@
 -- A word of the free map, summed bit by bit. Assumes nothing.
 use Prim.Native.Nat.{ℕ, zero, suc, _+_, _*_, _%_, _^_, _≤_, _<_}
-use mathlib.Core.Path.{_≡_, refl}
+use mathlib.Core.Path.{_≡_, refl, sym, _∙_}
 use mathlib.Core.Bool.{Bool, true, false}
 use native.Mathlib.Nat.{pow-suc, one-mul, zero-mul, lt-of-lt-of-le}
 use native.Mathlib.Numerals.{add-one}
@@ -54,6 +54,16 @@ module _ (n : ℕ) (w : Words) (j : ℕ) where
   low-suc : (i : ℕ) → lowBits n w j (suc i) ≡ lowBits n w j i + isFree n w (32 * j + i) * 2 ^ i
   unfolding lowBits sumBelow
   low-suc i = refl
+
+  low-past : n ≤ 32 * j → (i : ℕ) → lowBits n w j i ≡ 0
+  low-past l zero = sym low-none
+  low-past l (suc i) =
+      let z : isFree n w (32 * j + i) * 2 ^ i ≡ 0 = rw (← past-pages n w (32 * j + i) (omega arith)) (zero-mul (2 ^ i)) in
+      omega (arith, low-suc i, low-past l i)
+
+  -- no page of the word is below n
+  pub map-past : n ≤ 32 * j → 0 ≡ mapWord n w j
+  map-past l = sym (sym low-all ∙ low-past l 32)
 
   low-fits : (i : ℕ) → lowBits n w j i < 2 ^ i
   low-fits zero = omega (arith, low-none)

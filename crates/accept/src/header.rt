@@ -63,11 +63,14 @@ fn free_bit(n: u32, led: &[u32], p: u32) -> u32
     1
 }
 
-// Word j of the free map, by the pages' types.
+// Word j of the free map, by the pages' types. (Past the last page it is 0, and no page is asked.)
 fn map_word(n: u32, led: &[u32], j: u32) -> u32
     requires { ⌜ j < mapWords ⌝ }
     ensures { λ r. ⌜ r ≡ mapWord n (rec (now (led .entry))) j ⌝ }
 {
+    if n <= WORD_BITS * j {
+        return 0;
+    }
     let mut sum: u32 = 0;
     let mut i: u32 = 0;
     while i < WORD_BITS {

@@ -3,7 +3,7 @@ use Prim.Native.Nat.{_≤_, _-_}
 use mathlib.Core.Path.{_≡_, _∙_}
 use native.Mathlib.Omega.{arith}
 use Rattle.ledger.specs.Ledger.{rec}
-use Rattle.accept.proofs.FreeMap.{lowBits, low-none, low-all, low-more, low-room}
+use Rattle.accept.proofs.FreeMap.{lowBits, low-none, low-all, low-more, low-room, map-past}
 use Rattle.accept.proofs.header.map_word.Statement.{statement}
 use Rattle.accept.proofs.header.map_word.Tie as tie
 
@@ -12,6 +12,11 @@ Inv-loop n led j sum₀ i₀ sum i = (i ≤ 32) × (sum ≡ lowBits n (rec led) 
 
 abbrev μ-loop : tie.MeasureT-loop
 μ-loop n led j sum₀ i₀ sum i = 32 - i
+
+past : tie.Need-returns Inv-loop μ-loop
+past c =
+    let g = c .before .before .args in
+    map-past (g .n) (rec (g .led .now)) (g .j) (c .if1 .taken)
 
 loop-holds : tie.Need-loop-holds Inv-loop μ-loop
 loop-holds c = (omega arith, low-none _ _ _)
@@ -26,14 +31,14 @@ loop-again c =
     let l = c .before .before .loop in
     (omega arith, low-more _ _ _ (c .before .loop-test .taken) (c .free-bit .ensures) (l .inv .1))
 
-returns : tie.Need-returns Inv-loop μ-loop
-returns c =
-    let g = c .before .before .before .args in
+returns-2 : tie.Need-returns-2 Inv-loop μ-loop
+returns-2 c =
+    let g = c .before .before .before .before .args in
     let i : c .before .loop .i ≡ 32 = omega arith in
     c .before .loop .inv .1 ∙ rw i (low-all (g .n) (rec (g .led .now)) (g .j))
 
 pub map-word-spec : {M : Type 1} → statement M
 map-word-spec =
     tie.close
-    (tie.spec Inv-loop μ-loop loop-holds (λ c. omega arith) (λ c. omega arith) (λ c κs. tt) (λ c. omega arith) add-sum (λ c. omega arith)
-    (λ c. omega arith) loop-again returns)
+    (tie.spec Inv-loop μ-loop (λ c. omega arith) past loop-holds (λ c. omega arith) (λ c. omega arith) (λ c κs. tt) (λ c. omega arith) add-sum (λ c. omega arith)
+    (λ c. omega arith) loop-again returns-2)
