@@ -14,7 +14,7 @@
    - A list that a service writes (memory, ledger, answers; not acceptance's) overlaps no other list of the same call.
    - Nobody else writes the lists, or reads those that are written, until the service returns.
 
-   Link with libmonitor.a, which 'rt staticlib monitor' writes (x86-64). */
+   Link with libmonitor.a, which '.ci/library monitor' writes (x86-64). */
 #ifndef MONITOR_H
 #define MONITOR_H
 

@@ -1,4 +1,4 @@
-// Part of the build scripts: links the archive that `rt staticlib NAME` wrote, or says in one line why it cannot.
+// Part of the build scripts: links the archive that `.ci/library NAME` wrote, or says in one line why it cannot.
 
 use std::{env, path::Path};
 
@@ -7,7 +7,7 @@ fn link_archive(name: &str) {
     let archive = folder.join(format!("lib{name}.a"));
     println!("cargo::rerun-if-changed={}", archive.display());
     if !archive.exists() {
-        println!("cargo::error=target/staticlib/lib{name}.a is missing: run rt staticlib {name}");
+        println!("cargo::error=target/staticlib/lib{name}.a is missing: run .ci/library {name}");
     }
     // A check or the documentation can do without: so this is no error.
     if variable("CARGO_CFG_TARGET_ARCH") != "x86_64" {

@@ -12,8 +12,8 @@ use lib.Dec.{eqb, ltb}
 use Rattle.words.specs.Words.{Says, sumBelow, pick, recordWords, wordBits}
 use Rattle.machine.specs.declared.Machine.{Machine}
 use Rattle.machine.specs.Machine.{frameWords, headerWords, Insecure, Lent, mapWords, mapStart}
-use Rattle.mapping.specs.Mapping.{indexOf, slotOf, rightsOf, wellFormed, allRights, executeRight, mostTables, pageBytes, tableBytes}
-use Rattle.ledger.specs.Names.{types, states, runningWord, free, space, thread, firstLevel, secondLevel, dataPage, spare, building, final, stopped, blocksWord, countWord, dataBlocks, firstWord, flagsWord, indexWord, mappingWord, namedEnd, ownedEnd, ownerWord, registersWord, spaceEnd, stateWord, suspendedWord, threadEnd, typeWord}
+use Rattle.mapping.specs.Mapping.{indexOf, slotOf, rightsOf, wellFormed, rightsEnd, executeRight, mostTables, pageBytes, tableBytes}
+use Rattle.ledger.specs.Names.{freeEnd, types, states, runningWord, free, space, thread, firstLevel, secondLevel, dataPage, spare, building, final, stopped, blocksWord, countWord, dataBlocks, firstPageWord, flagsWord, indexWord, mappingWord, namedEnd, ownedEnd, ownerWord, registersWord, spaceEnd, stateWord, suspendedWord, threadEnd, typeWord}
 use Rattle.ledger.specs.Ledger.{header, rec}
 use Rattle.memory.specs.Memory.{frame}
 use Rattle.walk.specs.Walk.{slotWord}
@@ -30,7 +30,7 @@ Zeros r lo hi = (k : ℕ) → lo ≤ k → k < hi → r k ≡ 0
 pub record SpaceRec (n p : ℕ) (r : ℕ → ℕ) : Type 0 where
   pub itself : r ownerWord ≡ p
   -- "Word 2 is below n."
-  pub first : r firstWord < n
+  pub first : r firstPageWord < n
   pub state : r stateWord < states
   pub rest : Zeros r spaceEnd recordWords
 
@@ -42,7 +42,7 @@ pub record ThreadRec (r : ℕ → ℕ) : Type 0 where
 
 pub record Layout (n p : ℕ) (r : ℕ → ℕ) : Type 0 where
   pub known : r typeWord < types
-  pub is-free : r typeWord ≡ free → Zeros r ownerWord recordWords
+  pub is-free : r typeWord ≡ free → Zeros r freeEnd recordWords
   pub is-space : r typeWord ≡ space → SpaceRec n p r
   pub is-thread : r typeWord ≡ thread → ThreadRec r
   pub is-first : r typeWord ≡ firstLevel → Zeros r ownedEnd recordWords
@@ -91,7 +91,7 @@ mappingOf i j r = i * tableBytes + j * pageBytes + r
 pub data SlotOk (b : Machine) (w : Words) (a i j : ℕ) : ℕ → Type 0 where
   empty : SlotOk b w a i j 0
   outside : (f r : ℕ) → Insecure b f → r < executeRight → r % 2 ≡ 1 → SlotOk b w a i j (slotWord f r)
-  inside : (d r : ℕ) → Is b w a dataPage d → w d mappingWord ≡ mappingOf i j r → r < allRights → r % 2 ≡ 1 → SlotOk b w a i j (slotWord (b .secure + d) r)
+  inside : (d r : ℕ) → Is b w a dataPage d → w d mappingWord ≡ mappingOf i j r → r < rightsEnd → r % 2 ≡ 1 → SlotOk b w a i j (slotWord (b .secure + d) r)
 
 -- data page d stands in its slot: a table of a has its index, and the slot names it with its rights
 pub record Stands (b : Machine) (w m : Words) (a d : ℕ) : Type 0 where
@@ -102,12 +102,12 @@ pub record Stands (b : Machine) (w m : Words) (a d : ℕ) : Type 0 where
 
 pub record Tables (b : Machine) (w m : Words) (a : ℕ) : Type 0 where
   -- "word 2 names the only first-level page owned"
-  pub first : Is b w a firstLevel (w a firstWord)
-  pub only : (q : ℕ) → Is b w a firstLevel q → q ≡ w a firstWord
+  pub first : Is b w a firstLevel (w a firstPageWord)
+  pub only : (q : ℕ) → Is b w a firstLevel q → q ≡ w a firstPageWord
   -- "first-level slot i names table T exactly when T is owned and has index i"; after slot 255 zeros
-  pub names : (i T : ℕ) → i < mostTables → m (b .secure + w a firstWord) i ≡ T + 1 → Is b w a secondLevel T × (w T indexWord ≡ i)
-  pub named : (T : ℕ) → Is b w a secondLevel T → m (b .secure + w a firstWord) (w T indexWord) ≡ T + 1
-  pub rest : Zeros (m (b .secure + w a firstWord)) mostTables frameWords
+  pub names : (i T : ℕ) → i < mostTables → m (b .secure + w a firstPageWord) i ≡ T + 1 → Is b w a secondLevel T × (w T indexWord ≡ i)
+  pub named : (T : ℕ) → Is b w a secondLevel T → m (b .secure + w a firstPageWord) (w T indexWord) ≡ T + 1
+  pub rest : Zeros (m (b .secure + w a firstPageWord)) mostTables frameWords
   pub slots : (T j : ℕ) → Is b w a secondLevel T → j < frameWords → SlotOk b w a (w T indexWord) j (m (b .secure + T) j)
   -- "each data page stands in its slot"
   pub stands : (d : ℕ) → Is b w a dataPage d → Stands b w m a d

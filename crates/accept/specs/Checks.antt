@@ -9,7 +9,7 @@ use Rattle.words.specs.Words.{recordWords, sumBelow}
 use Rattle.machine.specs.declared.Machine.{Machine}
 use Rattle.machine.specs.Machine.{frameWords, Lent, mostPages}
 use Rattle.mapping.specs.Mapping.{indexOf, slotOf, rightsOf, wellFormed, mostTables}
-use Rattle.ledger.specs.Names.{space, firstLevel, secondLevel, dataPage, building, stopped, blocksWord, countWord, dataBlocks, firstWord, indexWord, mappingWord, namedEnd, ownedEnd, ownerWord, registersWord, stateWord, suspendedWord, threadEnd, typeWord}
+use Rattle.ledger.specs.Names.{freeEnd, space, firstLevel, secondLevel, dataPage, building, stopped, blocksWord, countWord, dataBlocks, firstPageWord, indexWord, mappingWord, namedEnd, ownedEnd, ownerWord, registersWord, stateWord, suspendedWord, threadEnd, typeWord}
 use Rattle.walk.specs.Walk.{slotWord}
 use Rattle.accept.specs.Accept.{Words, Zeros, SpaceRec, ThreadRec, Is, mappingOf, SlotOk, tally, counted, measured}
 
@@ -23,13 +23,13 @@ abbrev pub Wiped : Machine → Words → ℕ → Type 0
 Wiped b m p = Zeros (m (b .secure + p)) 0 frameWords
 
 pub record FreePage (b : Machine) (w m : Words) (p : ℕ) : Type 0 where
-  pub rest : Zeros (w p) ownerWord recordWords
+  pub rest : Zeros (w p) freeEnd recordWords
   pub wiped : Wiped b m p
 
 pub record SpacePage (b : Machine) (w m : Words) (p : ℕ) : Type 0 where
   pub layout : SpaceRec (b .pages) p (w p)
   pub wiped : Wiped b m p
-  pub first : (w p stateWord ≡ stopped → ⊥) → Is b w p firstLevel (w p firstWord)
+  pub first : (w p stateWord ≡ stopped → ⊥) → Is b w p firstLevel (w p firstPageWord)
 
 -- page p's owner is an address space, and its words from lo on are zero
 pub record Owned (b : Machine) (w : Words) (lo p : ℕ) : Type 0 where
@@ -62,18 +62,18 @@ abbrev pub stretch : ℕ
 stretch = 32
 
 pub record FirstLinks (b : Machine) (w m : Words) (a p : ℕ) : Type 0 where
-  pub only : w a firstWord ≡ p
+  pub only : w a firstPageWord ≡ p
   pub names : (i : ℕ) → i < mostTables → Names b w a i (m (b .secure + p) i)
   pub rest : Zeros (m (b .secure + p)) mostTables frameWords
 
 pub record SecondLinks (b : Machine) (w m : Words) (a p : ℕ) : Type 0 where
-  pub named : m (b .secure + w a firstWord) (w p indexWord) ≡ p + 1
+  pub named : m (b .secure + w a firstPageWord) (w p indexWord) ≡ p + 1
   pub slots : (j : ℕ) → j < frameWords → SlotOk b w a (w p indexWord) j (m (b .secure + p) j)
 
 -- data page d stands in the slot to which its mapping word leads from the first-level page of a
 pub record Reached (b : Machine) (w m : Words) (a d : ℕ) : Type 0 where
   pub table : ℕ
-  pub named : m (b .secure + w a firstWord) (indexOf (w d mappingWord)) ≡ table + 1
+  pub named : m (b .secure + w a firstPageWord) (indexOf (w d mappingWord)) ≡ table + 1
   pub slot : m (b .secure + table) (slotOf (w d mappingWord)) ≡ slotWord (b .secure + d) (rightsOf (w d mappingWord))
 
 -- page p's owner is not stopped

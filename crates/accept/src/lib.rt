@@ -1,5 +1,5 @@
 // The acceptance check: yes exactly when what is lent keeps the rules. It writes nothing, stops at the first fault, and reads each
-// secure page once, but for a few words of the tables.
+// secure page once, but for the tables' words that are in use and those beside them.
 
 mod counts;
 mod header;

@@ -1,7 +1,7 @@
 // The tables of a space that is not stopped, page by page: what a first-level page, a second-level table and a data page must hold.
 
 use ledger::DATA;
-use ledger::FIRST;
+use ledger::FIRST_PAGE;
 use ledger::INDEX;
 use ledger::OWNER;
 use ledger::SECOND_LEVEL;
@@ -11,10 +11,10 @@ use ledger::word;
 use machine::FRAME_WORDS;
 use machine::Machine;
 use machine::insecure;
-use mapping::ALL_RIGHTS;
 use mapping::EXECUTE;
 use mapping::MOST_TABLES;
 use mapping::PAGE_BYTES;
+use mapping::RIGHTS_END;
 use mapping::SLOTS;
 use mapping::TABLE_BYTES;
 use walk::slot_word;
@@ -24,7 +24,7 @@ ghost use Prim.Native.Nat.{ℕ, _+_, _*_, _<_, _≤_};
 ghost use lib.ListN.{length, getD};
 ghost use Rattle.words.specs.Words.{Says};
 ghost use Rattle.machine.specs.Machine.{frameWords};
-ghost use Rattle.mapping.specs.Mapping.{allRights, mostTables};
+ghost use Rattle.mapping.specs.Mapping.{rightsEnd, mostTables};
 ghost use Rattle.ledger.specs.Ledger.{rec};
 ghost use Rattle.ledger.specs.Names.{indexWord};
 ghost use Rattle.memory.specs.Memory.{frame, wordsOf};
@@ -129,7 +129,7 @@ fn slots_name(b: Machine, led: &[u32], a: u32, page: &[u32]) -> bool
 
 // Is frame f that of a data page of a's whose mapping word is address (i, j) with these rights?
 fn inside(b: Machine, led: &[u32], a: u32, i: u32, j: u32, f: u32, rights: u32) -> bool
-    requires { ⌜ (i < mostTables) × (j < frameWords) × (rights < allRights) ⌝ }
+    requires { ⌜ (i < mostTables) × (j < frameWords) × (rights < rightsEnd) ⌝ }
     ensures { λ r. ⌜ Says r (Inside b (rec (now (led .entry))) a i j f rights) ⌝ }
 {
     if f < b.secure {
@@ -155,7 +155,7 @@ fn slot_ok(b: Machine, led: &[u32], a: u32, i: u32, j: u32, held: u32) -> bool
     }
     let rights = held % PAGE_BYTES;
     let f = held / PAGE_BYTES;
-    if ALL_RIGHTS <= rights {
+    if RIGHTS_END <= rights {
         return false;
     }
     if rights % 2 != 1 {
@@ -208,7 +208,7 @@ pub fn first_links(b: Machine, mem: &[u32], led: &[u32], a: u32, p: u32) -> bool
     requires { ⌜ Here b (now mem) (now led) p ⌝ }
     ensures { λ r. ⌜ Says r (FirstLinks b (rec (now (led .entry))) (frame (now (mem .entry))) a p) ⌝ }
 {
-    if word(led, a, FIRST) != p {
+    if word(led, a, FIRST_PAGE) != p {
         return false;
     }
     let page = page_words(b, mem, p);
@@ -225,7 +225,7 @@ pub fn second_links(b: Machine, mem: &[u32], led: &[u32], a: u32, p: u32) -> boo
     ensures { λ r. ⌜ Says r (SecondLinks b (rec (now (led .entry))) (frame (now (mem .entry))) a p) ⌝ }
 {
     let i = word(led, p, INDEX);
-    if page_word(b, mem, word(led, a, FIRST), i) != p + 1 {
+    if page_word(b, mem, word(led, a, FIRST_PAGE), i) != p + 1 {
         return false;
     }
     slots_ok(b, led, a, i, page_words(b, mem, p))
@@ -237,7 +237,7 @@ pub fn reached(b: Machine, mem: &[u32], led: &[u32], a: u32, d: u32) -> bool
     ensures { λ r. ⌜ Says r (Reached b (rec (now (led .entry))) (frame (now (mem .entry))) a d) ⌝ }
 {
     let map = mapping_word(led, d);
-    let v = page_word(b, mem, word(led, a, FIRST), map.index());
+    let v = page_word(b, mem, word(led, a, FIRST_PAGE), map.index());
     if v == 0 {
         return false;
     }

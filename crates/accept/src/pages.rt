@@ -7,8 +7,9 @@ use crate::links::reached;
 use crate::links::second_links;
 use ledger::BUILDING;
 use ledger::DATA;
-use ledger::FIRST;
 use ledger::FIRST_LEVEL;
+use ledger::FIRST_PAGE;
+use ledger::FLAG;
 use ledger::FLAGS;
 use ledger::FREE;
 use ledger::FREE_END;
@@ -43,9 +44,6 @@ ghost use Rattle.ledger.specs.Names.{threadEnd, typeWord};
 ghost use Rattle.memory.specs.Memory.{frame};
 ghost use Rattle.accept.specs.Accept.{Zeros, SpaceRec};
 ghost use Rattle.accept.specs.Checks.{Here, Wiped, Owned, FreePage, SpacePage, ThreadRules, ThreadPage, FirstPage, SecondPage, DataPage, SparePage, Page, Pages};
-
-// The lowest of the four flags that are kept.
-const FLAG: u32 = 268435456;
 
 // Are words lo to hi - 1 of page p's record zero?
 fn zeros(led: &[u32], p: u32, lo: usize, hi: usize) -> bool
@@ -100,7 +98,7 @@ fn space_record(b: Machine, led: &[u32], p: u32) -> bool
     if word(led, p, OWNER) != p {
         return false;
     }
-    if b.pages <= word(led, p, FIRST) {
+    if b.pages <= word(led, p, FIRST_PAGE) {
         return false;
     }
     if STOPPED < word(led, p, STATE) {
@@ -122,7 +120,7 @@ fn space_page(b: Machine, mem: &[u32], led: &[u32], p: u32) -> bool
     if word(led, p, STATE) == STOPPED {
         return true;
     }
-    is_page(b, led, p, FIRST_LEVEL, word(led, p, FIRST))
+    is_page(b, led, p, FIRST_LEVEL, word(led, p, FIRST_PAGE))
 }
 
 // Of a thread whose words after the flags are zero: are its registers zero unless it is suspended, and is its owner not building if it is?

@@ -38,9 +38,9 @@ numbers (Runs r) = 0 ∷ registers r
 numbers Interrupted = interrupted ∷ []
 numbers Faulted = faulted ∷ []
 
--- the MAC of these eight words
-abbrev pub macOf : List ℕ → Mac
-macOf ws =
+-- these eight words, as a MAC
+abbrev pub asMac : List ℕ → Mac
+asMac ws =
     record {
       m0 = getD ws 0 0;
       m1 = getD ws 1 0;

@@ -7,11 +7,8 @@ use Rattle.words.specs.Words.{recordWords, listBelow, paste}
 use Rattle.machine.specs.declared.Machine.{Machine}
 use Rattle.machine.specs.Machine.{frameWords, headerWords, mapStart, mapWords, Lent}
 use Rattle.answer.specs.Refusals.{illFitting}
+use Rattle.ledger.specs.Names.{keyWords}
 use Rattle.accept.specs.Accept.{mapWord}
-
--- the words of the key
-abbrev pub keyWords : ℕ
-keyWords = 8
 
 -- word j of the free map where all pages are free
 unfoldable pub freshMap : Machine → ℕ → ℕ

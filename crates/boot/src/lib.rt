@@ -16,7 +16,8 @@ ghost use Prim.Native.Nat.{_+_, _*_, _<_, _≤_};
 ghost use lib.ListN.{length};
 ghost use Rattle.words.specs.Words.{Says, recordWords, listBelow};
 ghost use Rattle.machine.specs.Machine.{frameWords, headerWords, mapWords};
-ghost use Rattle.boot.specs.Boot.{keyWords, freshMap, freshLedger, freshMemory, BootFits, Booted};
+ghost use Rattle.ledger.specs.Names.{keyWords};
+ghost use Rattle.boot.specs.Boot.{freshMap, freshLedger, freshMemory, BootFits, Booted};
 
 // A word of ones.
 const ONES: u32 = 4294967295;

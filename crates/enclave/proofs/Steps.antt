@@ -23,7 +23,7 @@ use Rattle.walk.proofs.Laws.{length-filled}
 use Rattle.answer.specs.declared.Regs.{Regs}
 use Rattle.answer.specs.declared.Mac.{Mac}
 use Rattle.answer.specs.declared.Answer.the-variants.{Done, Value, Attested, Interrupted}
-use Rattle.answer.specs.Answer.{Out, done, gives, registers, numbers, running, owner, macOf, macWords}
+use Rattle.answer.specs.Answer.{Out, done, gives, registers, numbers, running, owner, asMac, macWords}
 use Rattle.answer.proofs.Laws.{did, attested}
 use Rattle.enclave.specs.Calls.{firstPage, mac, attest, sameWords, verify, spareTableCode, spareTable, mapDataCode, mapData, unmapDataCode, unmapData, topFour, interrupt, fault, load, store}
 use Rattle.enclave.proofs.Laws.{passes-spare-table, passes-map-data, passes-unmap-data, load-no, load-yes, store-no, store-yes}
@@ -51,7 +51,7 @@ module _ (same : Bool) (xs ys : List ℕ) (i : ℕ) (e : (same && sameWords (dro
   same-all lx ly = sym (and-true same) ∙ (rw (drop-of-length-le xs {i = i} lx, drop-of-length-le ys {i = i} ly) at e)
 
 -- ---- a MAC given, and a MAC tested
-eight-words : (L measurement text : List ℕ) → macWords (macOf (mac L measurement text)) ≡ mac L measurement text
+eight-words : (L measurement text : List ℕ) → macWords (asMac (mac L measurement text)) ≡ mac L measurement text
 unfolding mac eight
 eight-words L measurement text = refl
 

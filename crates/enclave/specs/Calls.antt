@@ -17,7 +17,7 @@ use Rattle.walk.specs.declared.Translated.{Translated}
 use Rattle.walk.specs.declared.Translated.the-variants.{Yes, No}
 use Rattle.answer.specs.declared.Answer.the-variants.{Attested, Interrupted, Faulted}
 use Rattle.answer.specs.Refusals.{noSuchPage, illFormed, notOwnSpare, notOwnData}
-use Rattle.answer.specs.Answer.{Out, macOf, answers, done, gives, call, addrCode, indexCode, running, owner}
+use Rattle.answer.specs.Answer.{Out, asMac, answers, done, gives, call, addrCode, indexCode, running, owner}
 
 -- the first-level page of the running thread's owner
 abbrev pub firstPage : List ℕ → ℕ
@@ -32,7 +32,7 @@ unfoldable pub mac : List ℕ → List ℕ → List ℕ → List ℕ
 mac L measurement text = eight (hmac (key L) (measurement ++ text))
 
 unfoldable pub attest : List ℕ → List ℕ → List ℕ → Out
-attest M L text = answers (Attested (macOf (mac L (hash L (owner L)) text))) M L
+attest M L text = answers (Attested (asMac (mac L (hash L (owner L)) text))) M L
 
 -- ---- 34 Verify data 8, measurement 8, MAC 8: 1 or 0
 unfoldable pub sameWords : List ℕ → List ℕ → Bool

@@ -9,7 +9,7 @@ use answer::addr_code;
 use answer::index_code;
 use answer::running_owner;
 use ledger::DATA;
-use ledger::FIRST;
+use ledger::FIRST_PAGE;
 use ledger::OWNER;
 use ledger::SECOND_LEVEL;
 use ledger::SPARE;
@@ -34,7 +34,7 @@ ghost use Rattle.enclave.specs.Calls.{firstPage, ownSpareCode, spareTabl
 pub fn first_page(led: &[u32]) -> u32
     ensures { λ r. ⌜ r ≡ firstPage (now (led .entry)) ⌝ }
 {
-    word(led, running_owner(led), FIRST)
+    word(led, running_owner(led), FIRST_PAGE)
 }
 
 fn own_spare_code(b: Machine, led: &[u32], p: u32) -> u32

@@ -4,6 +4,8 @@ use crate::pages::first_page;
 use answer::Answer;
 use answer::Regs;
 use answer::running_page;
+use ledger::FLAG;
+use ledger::SAVED_WORDS;
 use ledger::SUSPENDED;
 use ledger::set_running;
 use ledger::store_words;
@@ -30,12 +32,6 @@ pub fn exit(led: &mut [u32], v: u32) -> Answer
 
 // ---- 39 Interrupt
 
-// The lowest of the four flags that are kept.
-const FLAG: u32 = 268435456;
-
-// The words of a suspended thread: 1, its registers, its flags.
-const SAVED: usize = 18;
-
 // The top 4 bits of the flags are kept.
 fn top_four(w: u32) -> u32
     ensures { λ r. ⌜ r ≡ topFour w ⌝ }
@@ -44,7 +40,7 @@ fn top_four(w: u32) -> u32
 }
 
 // The suspended thread's words 3-20: 1, the registers, the top 4 bits of the flags.
-fn suspended_words(regs: Regs) -> [u32; SAVED]
+fn suspended_words(regs: Regs) -> [u32; SAVED_WORDS]
     ensures { λ r. ⌜ r ≡ 1 ∷ take 16 (registers regs) ++ (topFour (regs .flags) ∷ []) ⌝ }
 {
     [

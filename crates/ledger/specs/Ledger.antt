@@ -5,7 +5,7 @@ use mathlib.Core.List.{List, [], _∷_}
 use lib.ListN.{getD, set}
 use Rattle.words.specs.Words.{wordBits, recordWords, bit, bitOff, bitOn, padded}
 use Rattle.machine.specs.Machine.{headerWords, mapStart}
-use Rattle.ledger.specs.Names.{runningWord, typeWord, ownerWord, firstWord, stateWord, countWord, blocksWord, hashWord, entryWord, suspendedWord, mappingWord}
+use Rattle.ledger.specs.Names.{runningWord, typeWord, ownerWord, firstPageWord, stateWord, countWord, blocksWord, hashWord, entryWord, suspendedWord, mappingWord}
 
 -- ---- readers
 -- word k of the header
@@ -16,7 +16,7 @@ header L k = getD L k 0
 unfoldable pub rec : List ℕ → ℕ → ℕ → ℕ
 rec L p k = getD L (headerWords + recordWords * p + k) 0
 
--- those words of page p, or of an address space a, a thread t, a data page d
+-- the words that have names, of page p, of an address space a, a thread t, a data page d
 abbrev pub typeOf : List ℕ → ℕ → ℕ
 typeOf L p = rec L p typeWord
 
@@ -24,7 +24,7 @@ abbrev pub ownerOf : List ℕ → ℕ → ℕ
 ownerOf L p = rec L p ownerWord
 
 abbrev pub firstOf : List ℕ → ℕ → ℕ
-firstOf L a = rec L a firstWord
+firstOf L a = rec L a firstPageWord
 
 abbrev pub stateOf : List ℕ → ℕ → ℕ
 stateOf L a = rec L a stateWord

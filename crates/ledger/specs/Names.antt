@@ -1,4 +1,5 @@
--- Document 01, "Ledger": the header's words, a record's words, the types of a page and the states of an address space, by name. Assumes nothing.
+-- Document 01, "Ledger": who runs, the words of a record, the types of a page and the states of an address space, by name. (The free map's
+-- place is machine's.) Assumes nothing.
 use Prim.Native.Nat.{ℕ}
 
 -- "Header: word 0 the running thread's page + 1, or 0; 1-8 the key; 9-16 the free map ..; 17-31 zero."
@@ -13,8 +14,8 @@ abbrev pub ownerWord : ℕ
 ownerWord = 1
 
 -- of an address space: "2 first-level page; 3 state ..; 4 count of other pages owned; 5 blocks measured; 6-13 hash or measurement"
-abbrev pub firstWord : ℕ
-firstWord = 2
+abbrev pub firstPageWord : ℕ
+firstPageWord = 2
 
 abbrev pub stateWord : ℕ
 stateWord = 3
@@ -47,7 +48,7 @@ flagsWord = 20
 abbrev pub threadEnd : ℕ
 threadEnd = 21
 
--- of a second-level table: "2 index"; of a data page: "2 its mapping word"
+-- of a second-level table: "2 its index, 0-255"; of a data page: "2 its mapping word"
 abbrev pub indexWord : ℕ
 indexWord = 2
 
@@ -60,6 +61,14 @@ namedEnd = 3
 
 abbrev pub ownedEnd : ℕ
 ownedEnd = 2
+
+-- the same of a free page, of which only the type is named
+abbrev pub freeEnd : ℕ
+freeEnd = 1
+
+-- the words of the key
+abbrev pub keyWords : ℕ
+keyWords = 8
 
 -- what a data page adds to the blocks measured: one for its mapping, 64 for its words
 abbrev pub dataBlocks : ℕ

@@ -43,7 +43,7 @@ pub const OWNER: u32 = 1;
 
 // of an address space,
 
-pub const FIRST: u32 = 2;
+pub const FIRST_PAGE: u32 = 2;
 
 pub const STATE: u32 = 3;
 
@@ -65,11 +65,16 @@ pub const REGISTERS: usize = 4;
 
 pub const FLAGS: u32 = 20;
 
+// The lowest of the four flags that are kept; the words of a suspended thread: 1, its registers, its flags.
+pub const FLAG: u32 = 268435456;
+
+pub const SAVED_WORDS: usize = 18;
+
 // of a table, and of a data page.
 
 pub const INDEX: u32 = 2;
 
-pub const MAP: u32 = 2;
+pub const MAPPING: u32 = 2;
 
 // The first of the words that are zero in a record: of a space, of a thread, of a table or a data page, of a first-level or spare page, of a
 // free page.

@@ -1,7 +1,7 @@
 // Words of the header and of a page's record.
 
 use crate::DATA;
-use crate::MAP;
+use crate::MAPPING;
 use crate::RUNNING;
 use machine::HEADER_WORDS;
 use mapping::Mapping;
@@ -12,7 +12,7 @@ ghost use Prim.Native.Nat.{_+_, _*_, _≤_};
 ghost use lib.ListN.{length, getD, set};
 ghost use Rattle.words.specs.Words.{recordWords, padded};
 ghost use Rattle.machine.specs.Machine.{headerWords};
-ghost use Rattle.ledger.specs.Ledger.{header, rec, put, puts, anew, run};
+ghost use Rattle.ledger.specs.Ledger.{header, rec, mapOf, put, puts, anew, run};
 ghost use Rattle.ledger.specs.Names.{dataPage};
 
 // Word i of the ledger, 0 past its end.
@@ -50,9 +50,9 @@ pub fn word(led: &[u32], p: u32, k: u32) -> u32
 
 // A data page's mapping word.
 pub fn mapping_word(led: &[u32], p: u32) -> Mapping
-    ensures { λ r. ⌜ r .0 ≡ rec (now (led .entry)) p 2 ⌝ }
+    ensures { λ r. ⌜ r .0 ≡ mapOf (now (led .entry)) p ⌝ }
 {
-    Mapping(word(led, p, MAP))
+    Mapping(word(led, p, MAPPING))
 }
 
 // v at word k of page p's record.

@@ -18,12 +18,12 @@ mostTables = 256
 abbrev pub addressEnd : ℕ
 addressEnd = 2 ^ 30
 
--- the rights that hold execute; and the rights at all
+-- the execute right; and what all rights lie below
 abbrev pub executeRight : ℕ
 executeRight = 4
 
-abbrev pub allRights : ℕ
-allRights = 8
+abbrev pub rightsEnd : ℕ
+rightsEnd = 8
 
 abbrev pub indexOf : ℕ → ℕ
 indexOf w = bits 22 8 w

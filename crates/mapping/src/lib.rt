@@ -25,7 +25,7 @@ const WRITE: u32 = 2;
 
 pub const EXECUTE: u32 = 4;
 
-pub const ALL_RIGHTS: u32 = 8;
+pub const RIGHTS_END: u32 = 8;
 
 // Bits 3-11 above the rights.
 const UNUSED: u32 = 512;
@@ -46,7 +46,7 @@ impl Mapping {
     pub fn rights(self) -> u32
         ensures { λ r. ⌜ r ≡ rightsOf (self .0) ⌝ }
     {
-        self.0 % ALL_RIGHTS
+        self.0 % RIGHTS_END
     }
 
     pub fn address(self) -> u32
@@ -73,7 +73,7 @@ impl Mapping {
         if self.0 % 2 != 1 {
             return false;
         }
-        if self.0 / ALL_RIGHTS % UNUSED != 0 {
+        if self.0 / RIGHTS_END % UNUSED != 0 {
             return false;
         }
         self.0 < ADDRESS_END

@@ -3,9 +3,12 @@
 ghost use Prim.Native.Nat.{_≤_};
 ghost use lib.ListN.{length};
 
+// The words of a record.
+pub const RECORD: usize = 32;
+
 // The first words of a record and how many they are; the rest are zero.
 pub struct Row {
-    pub words: [u32; 32],
+    pub words: [u32; RECORD],
     pub count: usize,
 }
 
@@ -48,10 +51,10 @@ fn word(text: &[u8]) -> u32 {
 pub fn read(text: &[u8]) -> Row
     ensures { λ r. ⌜ r .count ≤ 32 ⌝ }
 {
-    let mut words = [0u32; 32];
+    let mut words = [0u32; RECORD];
     let mut count = 0;
     let mut at = 0;
-    while at < text.len() && count < 32 {
+    while at < text.len() && count < RECORD {
         let end = until(text, at, b' ');
         words[count] = word(&text[at..end]);
         count += 1;

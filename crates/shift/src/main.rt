@@ -8,6 +8,23 @@ mod output;
 ghost use Prim.Native.Nat.{_≤_};
 ghost use lib.ListN.{length};
 
+// Box A: 16 frames, secure pages 0-7 in frames 6-13, the monitor in frames 0-1.
+const FRAMES: u32 = 16;
+
+const SECURE: u32 = 6;
+
+const PAGES: u32 = 8;
+
+const MONITOR: u32 = 0;
+
+const MONITORS: u32 = 2;
+
+const KEY: [u32; 8] = [1, 2, 3, 4, 5, 6, 7, 8];
+
+const MEMORY_WORDS: usize = 16384;
+
+const LEDGER_WORDS: usize = 288;
+
 // Word i of frame f holds 1024f + i: its own place.
 fn fill(memory: &mut [u32])
     requires { ⌜ length (now memory) ≤ 16384 ⌝ }
@@ -21,13 +38,32 @@ fn fill(memory: &mut [u32])
 }
 
 fn boot(memory: &mut [u32], ledger: &mut [u32]) -> u32 {
-    let key = [1u32, 2, 3, 4, 5, 6, 7, 8];
-    monitor::monitor_boot(16, 6, 8, 0, 2, &key, memory, ledger)
+    let key = KEY;
+    monitor::monitor_boot(
+        FRAMES,
+        SECURE,
+        PAGES,
+        MONITOR,
+        MONITORS,
+        &key,
+        memory,
+        ledger,
+    )
 }
 
 // A batch of one call.
 fn batch(memory: &mut [u32], ledger: &mut [u32], call: &[u32], answer: &mut [u32]) -> u32 {
-    monitor::monitor_batch(16, 6, 8, 0, 2, memory, ledger, call, answer)
+    monitor::monitor_batch(
+        FRAMES,
+        SECURE,
+        PAGES,
+        MONITOR,
+        MONITORS,
+        memory,
+        ledger,
+        call,
+        answer,
+    )
 }
 
 fn obey(number: usize, row: input::Row, memory: &mut [u32], ledger: &mut [u32])
@@ -35,7 +71,7 @@ fn obey(number: usize, row: input::Row, memory: &mut [u32], ledger: &mut [u32])
 {
     let words = row.words;
     output::call(number, &words, row.count);
-    let mut answer = [0u32; 32];
+    let mut answer = [0u32; input::RECORD];
     if batch(memory, ledger, &words, &mut answer) != 0 {
         output::say(b" -> batch refused\n");
         return;
@@ -60,9 +96,9 @@ fn play(text: &[u8], memory: &mut [u32], ledger: &mut [u32]) {
 }
 
 fn main() {
-    let mut memory = [0u32; 16384];
+    let mut memory = [0u32; MEMORY_WORDS];
     fill(&mut memory);
-    let mut ledger = [0u32; 288];
+    let mut ledger = [0u32; LEDGER_WORDS];
     if boot(&mut memory, &mut ledger) != 0 {
         output::say(b"boot refused\n");
         return;

@@ -1,4 +1,5 @@
 // Prints a call and its answer.
+use crate::input::RECORD;
 ghost use Prim.Native.Nat.{_≤_};
 ghost use lib.ListN.{length};
 
@@ -112,7 +113,7 @@ fn meaning(code: u32) {
 }
 
 // The call's part of a line: a record's first words.
-pub fn call(number: usize, list: &[u32; 32], count: usize)
+pub fn call(number: usize, list: &[u32; RECORD], count: usize)
     requires { ⌜ count ≤ 32 ⌝ }
 {
     io::print_decimal(1, number as u64);
@@ -121,7 +122,7 @@ pub fn call(number: usize, list: &[u32; 32], count: usize)
     words(list, 1, count);
 }
 
-fn done(call: u32, answer: &[u32; 32]) {
+fn done(call: u32, answer: &[u32; RECORD]) {
     let n = values(call);
     if n == 0 {
         return;
@@ -131,7 +132,7 @@ fn done(call: u32, answer: &[u32; 32]) {
 }
 
 // The answer's part of a line.
-pub fn answer(call: u32, answer: &[u32; 32]) {
+pub fn answer(call: u32, answer: &[u32; RECORD]) {
     let code = answer[0];
     say(b" -> ");
     decimal(code);

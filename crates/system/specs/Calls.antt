@@ -123,7 +123,7 @@ mapBlock map = 2 ∷ addressOf map ∷ replicate 14 0
 unfoldable pub addPage : List ℕ → ℕ → List ℕ → List ℕ
 addPage h map words = absorb (compress h (mapBlock map)) words
 
--- a data page whose hash, with that record added, is h
+-- a data page more; the space's hash, with that record added, is h
 unfoldable pub newData : List ℕ → ℕ → ℕ → ℕ → List ℕ → List ℕ
 newData L a p map h =
     let L₁ = occupy L p (dataPage ∷ a ∷ map ∷ []) in

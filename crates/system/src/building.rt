@@ -14,8 +14,8 @@ use answer::space_code;
 use ledger::BLOCKS;
 use ledger::DATA_BLOCKS;
 use ledger::FINAL;
-use ledger::FIRST;
 use ledger::FIRST_LEVEL;
+use ledger::FIRST_PAGE;
 use ledger::FREE;
 use ledger::HASH_WORDS;
 use ledger::SECOND_LEVEL;
@@ -160,7 +160,7 @@ fn init_table_code(b: Machine, mem: &[u32], led: &[u32], a: u32, p: u32, i: u32)
         building_code(b, led, a),
         either(
             page_code(b, led, p),
-            index_code(mem, b.secure, word(led, a, FIRST), i),
+            index_code(mem, b.secure, word(led, a, FIRST_PAGE), i),
         ),
     )
 }
@@ -179,7 +179,7 @@ pub fn init_table(b: Machine, mem: &mut [u32], led: &mut [u32], a: u32, p: u32, 
     if code != 0 {
         return Answer::Refused(code);
     }
-    link(mem, b.secure, word(led, a, FIRST), i, p);
+    link(mem, b.secure, word(led, a, FIRST_PAGE), i, p);
     new_table(led, a, p, i);
     Answer::Done
 }
@@ -238,7 +238,7 @@ fn map_secure_code(
 ) -> u32
     ensures { λ r. ⌜ r ≡ mapSecureCode b (now (mem .entry)) (now (led .entry)) a p (map .0) g ⌝ }
 {
-    let place = place_code(b, mem, word(led, a, FIRST), map, g);
+    let place = place_code(b, mem, word(led, a, FIRST_PAGE), map, g);
     either(
         building_code(b, led, a),
         either(
@@ -296,7 +296,7 @@ pub fn map_secure(
     let page = (b.secure as usize) + (p as usize);
     memory::copy(mem, g as usize, page);
     let h = add_page(mem, hash_words(led, a), map, page);
-    map_page(mem, b.secure, word(led, a, FIRST), map, p);
+    map_page(mem, b.secure, word(led, a, FIRST_PAGE), map, p);
     new_data(led, a, p, map, h);
     Answer::Done
 }
@@ -306,7 +306,7 @@ pub fn map_secure(
 fn map_insecure_code(b: Machine, mem: &[u32], led: &[u32], a: u32, map: Mapping, g: u32) -> u32
     ensures { λ r. ⌜ r ≡ mapInsecureCode b (now (mem .entry)) (now (led .entry)) a (map .0) g ⌝ }
 {
-    let place = place_code(b, mem, word(led, a, FIRST), map, g);
+    let place = place_code(b, mem, word(led, a, FIRST_PAGE), map, g);
     either(
         building_code(b, led, a),
         either(
@@ -334,7 +334,7 @@ pub fn map_insecure(
     fill(
         mem,
         b.secure,
-        word(led, a, FIRST),
+        word(led, a, FIRST_PAGE),
         map.0,
         slot_word(g, map.rights()),
     );

@@ -11,6 +11,7 @@ use ledger::ENTRY;
 use ledger::FINAL;
 use ledger::FLAGS;
 use ledger::OWNER;
+use ledger::SAVED_WORDS;
 use ledger::STATE;
 use ledger::SUSPENDED;
 use ledger::THREAD;
@@ -26,9 +27,6 @@ ghost use mathlib.Core.List.{List};
 ghost use Prim.Native.Nat.{ℕ};
 ghost use Rattle.answer.specs.Answer.{numbers, registers};
 ghost use Rattle.system.specs.Calls.{threadCode, enterCode, firstRegs, enterThread, resumeCode, savedRegs, resume};
-
-// The words of a suspended thread: 1, its registers, its flags.
-const SAVED: usize = 18;
 
 fn thread_code(b: Machine, led: &[u32], t: u32) -> u32
     ensures { λ r. ⌜ r ≡ threadCode b (now (led .entry)) t ⌝ }
@@ -137,7 +135,7 @@ pub fn resume(b: Machine, led: &mut [u32], t: u32) -> Answer
         return Answer::Refused(code);
     }
     let regs = saved_regs(led, t);
-    let idle = [0u32; SAVED];
+    let idle = [0u32; SAVED_WORDS];
     store_words(led, t, SUSPENDED, &idle);
     set_running(led, t + 1);
     Answer::Runs(regs)

@@ -5,7 +5,7 @@ use mapping::Mapping;
 use mapping::PAGE_BYTES;
 ghost use mathlib.Core.Path.{_≡_};
 ghost use Prim.Native.Nat.{_+_, _<_, _^_};
-ghost use Rattle.mapping.specs.Mapping.{allRights};
+ghost use Rattle.mapping.specs.Mapping.{rightsEnd};
 ghost use Rattle.walk.specs.Walk.{walk, translate, frameOf, wordOf, filled, slotWord, mapped, linked};
 
 // The table that has the address's slot, and what the slot holds.
@@ -100,7 +100,7 @@ pub fn fill(mem: &mut [u32], s: u32, first: u32, va: u32, v: u32)
 
 // The slot that names frame f with these rights.
 pub fn slot_word(f: u32, rights: u32) -> u32
-    requires { ⌜ (f < 2 ^ 20) × (rights < allRights) ⌝ }
+    requires { ⌜ (f < 2 ^ 20) × (rights < rightsEnd) ⌝ }
     ensures { λ r. ⌜ r ≡ slotWord f rights ⌝ }
 {
     f * PAGE_BYTES + rights

@@ -1,4 +1,4 @@
--- What several parts share and none owns: a choice, what a test's answer says, refusals in order, bits, sums, lists of words. Assumes nothing.
+-- What belongs to no one part: a choice, what a test's answer says, refusals in order, bits, sums, lists of words. Assumes nothing.
 use Prim.Native.Nat.{ℕ, zero, suc, _+_, _-_, _*_, _/_, _%_, _^_}
 use mathlib.Core.Bool.{Bool, true, false, _&&_}
 use mathlib.Core.List.{List, [], _∷_, _++_}

@@ -3,7 +3,7 @@
 ghost use mathlib.Core.Path.{_≡_};
 ghost use Prim.Native.Nat.{ℕ, _+_, _<_, _≤_};
 ghost use lib.ListN.{length, getD, replicate};
-ghost use Rattle.words.specs.Words.{Says, when, or, bitOff, bitOn, paste};
+ghost use Rattle.words.specs.Words.{Says, when, or, wordBits, bitOff, bitOn, paste};
 
 // The words of a record: a page's, a call's, an answer's.
 pub const RECORD_WORDS: usize = 32;
@@ -31,7 +31,7 @@ pub fn either(c: u32, d: u32) -> u32
 
 // The number with bit j 0.
 pub fn bit_off(w: u32, j: u32) -> u32
-    requires { ⌜ j < 32 ⌝ }
+    requires { ⌜ j < wordBits ⌝ }
     ensures { λ r. ⌜ r ≡ bitOff w j ⌝ }
 {
     let b = 1u32 << j;
@@ -40,7 +40,7 @@ pub fn bit_off(w: u32, j: u32) -> u32
 
 // The number with bit j 1.
 pub fn bit_on(w: u32, j: u32) -> u32
-    requires { ⌜ j < 32 ⌝ }
+    requires { ⌜ j < wordBits ⌝ }
     ensures { λ r. ⌜ r ≡ bitOn w j ⌝ }
 {
     let b = 1u32 << j;

@@ -1,5 +1,5 @@
 //! The proved SHA-256 and HMAC of crate `sha256`, from the static library
-//! that `rt staticlib sha256_host` writes. All is in words of 32 bits, taken
+//! that `.ci/library sha256_host` writes. All is in words of 32 bits, taken
 //! big-endian.
 //!
 //! ```
