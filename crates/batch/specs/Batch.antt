@@ -10,7 +10,8 @@ use Rattle.ledger.specs.Names.{runningWord}
 use Rattle.ledger.specs.Ledger.{header}
 use Rattle.answer.specs.Refusals.{wrongTime, badRecord}
 use Rattle.answer.specs.Answer.{Out, refused, call}
-use Rattle.system.specs.Calls.{getPhysPages, initAddrSpace, initThread, initTable, allocSpare, mapSecure, mapInsecure, finalise, enterThread, resume, stop, remove, freePages}
+use Rattle.building.specs.Calls.{initAddrSpace, initThread, initTable, allocSpare, mapSecure, mapInsecure, finalise}
+use Rattle.system.specs.Calls.{getPhysPages, enterThread, resume, stop, remove, freePages}
 use Rattle.enclave.specs.Calls.{getRandom, attest, verify, spareTable, mapData, unmapData, exit, interrupt, fault, load, store}
 
 -- word k of a record W, 0 being the call's number; and n of its words from k on

@@ -6,8 +6,8 @@ use lib.ListN.{length, replicate}
 use Rattle.words.specs.Words.{recordWords, listBelow, paste}
 use Rattle.machine.specs.declared.Machine.{Machine}
 use Rattle.machine.specs.Machine.{frameWords, headerWords, mapStart, mapWords, Lent}
-use Rattle.answer.specs.Refusals.{illFitting}
 use Rattle.ledger.specs.Names.{keyWords}
+use Rattle.answer.specs.Refusals.{illFitting}
 use Rattle.accept.specs.Accept.{mapWord}
 
 -- word j of the free map where all pages are free

@@ -11,7 +11,8 @@ use Rattle.memory.specs.Memory.{frame, wordsOf, putWord, copied, wiped}
 use Rattle.walk.specs.Walk.{walk, translate, filled, mapped, linked}
 use Rattle.answer.specs.Answer.{addrCode, indexCode, unless, asCode, pgCode, buildingCode}
 use Rattle.accept.specs.Accept.{isFree, mapWord}
-use Rattle.system.specs.Calls.{getPhysPages, initAddrSpaceCode, newSpace, initAddrSpace, initThreadCode, newThread, initThread, initTableCode, newTable, initTable, mapSecureCode, newData, mapSecure, finalised, finalise, threadCode, enterCode, enterThread, resumeCode, resume, stop, removeSpaceCode, removeOtherCode, removeCode, left, remove, freeCount, lowestFree, freePages}
+use Rattle.building.specs.Calls.{initAddrSpaceCode, newSpace, initAddrSpace, initThreadCode, newThread, initThread, initTableCode, newTable, initTable, mapSecureCode, newData, mapSecure, finalised, finalise}
+use Rattle.system.specs.Calls.{getPhysPages, threadCode, enterCode, enterThread, resumeCode, resume, stop, removeSpaceCode, removeOtherCode, removeCode, left, remove, freeCount, lowestFree, freePages}
 use Rattle.enclave.specs.Calls.{exit, interrupt, fault, load, store}
 use Rattle.batch.specs.Batch.{calls, lookup, turnCode, formCode, obey, after, batch}
 use Rattle.boot.specs.Boot.{freshMap, freshLedger, freshMemory}

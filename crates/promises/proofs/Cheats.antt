@@ -12,7 +12,8 @@ use Rattle.sha256.specs.Sha256.{H0}
 use Rattle.ledger.specs.Ledger.{header, rec, mapBit, put, puts, anew, mapOff, occupy}
 use Rattle.answer.specs.Answer.{Out, unless}
 use Rattle.accept.specs.Accept.{isFree, mapWord, Accepted}
-use Rattle.system.specs.Calls.{freePages, freeCount, lowestFree, initAddrSpaceCode, newSpace, initAddrSpace}
+use Rattle.building.specs.Calls.{initAddrSpaceCode, newSpace, initAddrSpace}
+use Rattle.system.specs.Calls.{freePages, freeCount, lowestFree}
 use Rattle.batch.specs.Batch.{lookup, calls, turnCode, formCode, obey, after, batch}
 use Rattle.batch.specs.Service.{mostRecords, BatchFits, Batched}
 use Rattle.boot.specs.Boot.{freshMap, freshLedger, freshMemory}

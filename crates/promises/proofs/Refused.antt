@@ -12,7 +12,8 @@ use Rattle.walk.specs.Walk.{translate}
 use Rattle.walk.specs.declared.Translated.{Translated}
 use Rattle.walk.specs.declared.Translated.the-variants.{Yes, No}
 use Rattle.answer.specs.Answer.{Out, refused, unless, call}
-use Rattle.system.specs.Calls.{getPhysPages, initAddrSpace, initThread, initTable, allocSpare, mapSecure, mapInsecure, finalise, enterThread, resume, stop, remove, freePages}
+use Rattle.building.specs.Calls.{initAddrSpace, initThread, initTable, allocSpare, mapSecure, mapInsecure, finalise}
+use Rattle.system.specs.Calls.{getPhysPages, enterThread, resume, stop, remove, freePages}
 use Rattle.enclave.specs.Calls.{getRandom, attest, verify, spareTable, mapData, unmapData, exit, interrupt, fault, firstPage, loadThrough, load, storeThrough, store}
 use Rattle.batch.specs.Batch.{arg, calls, obey, batch}
 use Rattle.batch.specs.Service.{Batched}

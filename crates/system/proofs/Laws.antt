@@ -1,5 +1,5 @@
--- What each call's refusals say where none of them refuses. (Of Finalise `passes-building` says it, of Stop `passes-as`.) Assumes nothing.
-use Prim.Native.Nat.{ℕ, _+_, _<_}
+-- What each call's refusals say where none of them refuses. (Of Stop `passes-as` says it.) Assumes nothing.
+use Prim.Native.Nat.{ℕ, _<_}
 use mathlib.Core.Path.{_≡_, refl}
 use mathlib.Core.Bool.{Bool, true, false, not}
 use mathlib.Core.List.{List}
@@ -7,52 +7,13 @@ use mathlib.Core.Logic.{_⊎_, inl, inr}
 use lib.Dec.{eqb}
 use borrow.Author.Tests.{eqb-true, eqb-false}
 use Rattle.words.specs.Words.{pick, when}
-use Rattle.words.proofs.Codes.{or-none, passes, passes-not, in-range, is, is-not}
+use Rattle.words.proofs.Codes.{or-none, in-range, is, is-not}
 use Rattle.machine.specs.declared.Machine.{Machine}
-use Rattle.machine.specs.Machine.{Insecure, insecure}
-use Rattle.machine.proofs.Laws.{insecure-holds}
-use Rattle.mapping.specs.Mapping.{executes, wellFormed}
-use Rattle.ledger.specs.Names.{free, space, thread, spare, building, final, stopped}
+use Rattle.ledger.specs.Names.{free, space, thread, spare, final, stopped}
 use Rattle.ledger.specs.Ledger.{rec}
-use Rattle.memory.specs.Memory.{frame}
-use Rattle.walk.proofs.Laws.{Holds}
-use Rattle.answer.proofs.Laws.{passes-addr, passes-index, passes-as, passes-pg, passes-building}
-use Rattle.system.specs.Parts.{placeCode}
-use Rattle.system.specs.Calls.{initAddrSpaceCode, initThreadCode, initTableCode, allocSpareCode, mapSecureCode, mapInsecureCode, threadCode, enterCode, resumeCode, removeSpaceCode, removeOtherCode, removeCode}
+use Rattle.system.specs.Calls.{threadCode, enterCode, resumeCode, removeSpaceCode, removeOtherCode, removeCode}
 
 module _ (b : Machine) (L : List ℕ) where
-  -- ---- 2 InitAddrSpace
-  pub passes-init-addr-space : (a f : ℕ) → initAddrSpaceCode b L a f ≡ 0
-      → (a < b .pages) × (f < b .pages) × (rec L a 0 ≡ free) × (rec L f 0 ≡ free) × (a ≡ f → ⊥)
-  unfolding initAddrSpaceCode
-  passes-init-addr-space a f e =
-      let x = or-none e in
-      let y = or-none (x .1) in
-      let z = or-none (y .1) in
-      let u = or-none (z .1) in
-      (in-range (b .pages) a 0 (x .0), in-range (b .pages) f 0 (y .0), is (rec L a 0) free 1 (z .0), is (rec L f 0) free 1 (u .0), is-not a f 1 (u .1))
-
-  -- ---- 3 InitThread
-  pub passes-init-thread : (a t : ℕ) → initThreadCode b L a t ≡ 0
-      → (a < b .pages) × (rec L a 0 ≡ space) × (rec L a 3 ≡ building) × (t < b .pages) × (rec L t 0 ≡ free)
-  unfolding initThreadCode
-  passes-init-thread a t e =
-      let x = or-none e in
-      let s = passes-building b L a (x .0) in
-      let p = passes-pg b L t (x .1) in
-      (s .0, s .1, s .2, p .0, p .1)
-
-  -- ---- 5 AllocSpare
-  pub passes-alloc-spare : (a p : ℕ) → allocSpareCode b L a p ≡ 0
-      → (a < b .pages) × (rec L a 0 ≡ space) × (rec L a 3 ≡ stopped → ⊥) × (p < b .pages) × (rec L p 0 ≡ free)
-  unfolding allocSpareCode
-  passes-alloc-spare a p e =
-      let x = or-none e in
-      let y = or-none (x .1) in
-      let s = passes-as b L a (x .0) in
-      let q = passes-pg b L p (y .1) in
-      (s .0, s .1, is-not (rec L a 3) stopped 3 (y .0), q .0, q .1)
-
   -- ---- 9 Enter and 10 Resume
   pub passes-thread : (t : ℕ) → threadCode b L t ≡ 0 → (t < b .pages) × (rec L t 0 ≡ thread) × (rec L (rec L t 1) 3 ≡ final)
   unfolding threadCode
@@ -100,50 +61,3 @@ module _ (b : Machine) (L : List ℕ) where
           let y = or-none z in
           inl (eqb-true (rec L p 0) space q, is (rec L p 3) stopped 12 (y .0), is (rec L p 4) 0 13 (y .1))
       kind false q z = inr (eqb-false (rec L p 0) space q, other (eqb (rec L p 0) spare) refl z)
-
--- ---- the calls that look at the tables too
-module _ (b : Machine) (M L : List ℕ) where
-  -- ---- 4 InitL2PTable
-  pub passes-init-table : (a p i : ℕ) → initTableCode b M L a p i ≡ 0
-      → (a < b .pages) × (rec L a 0 ≡ space) × (rec L a 3 ≡ building) × (p < b .pages) × (rec L p 0 ≡ free) × (i < 256) ×
-      (frame M (b .secure + rec L a 2) i ≡ 0)
-  unfolding initTableCode
-  passes-init-table a p i e =
-      let x = or-none e in
-      let y = or-none (x .1) in
-      let s = passes-building b L a (x .0) in
-      let q = passes-pg b L p (y .0) in
-      let z = passes-index M (b .secure) (rec L a 2) i (y .1) in
-      (s .0, s .1, s .2, q .0, q .1, z .0, z .1)
-
-  -- ---- 6 MapSecure and 7 MapInsecure
-  pub passes-place : (f map g : ℕ) → placeCode b M f map g ≡ 0 → Holds M (b .secure) f map 0 × Insecure b g
-  unfolding placeCode
-  passes-place f map g e =
-      let x = or-none e in
-      (passes-addr M (b .secure) f map (x .0), insecure-holds b g (passes-not (insecure b g) 8 (x .1)))
-
-  pub passes-map-secure : (a p map g : ℕ) → mapSecureCode b M L a p map g ≡ 0
-      → (a < b .pages) × (rec L a 0 ≡ space) × (rec L a 3 ≡ building) × (p < b .pages) × (rec L p 0 ≡ free) × (wellFormed map ≡ true) ×
-      Holds M (b .secure) (rec L a 2) map 0 × Insecure b g
-  unfolding mapSecureCode placeCode
-  passes-map-secure a p map g e =
-      let x = or-none e in
-      let y = or-none (x .1) in
-      let z = or-none (y .1) in
-      let s = passes-building b L a (x .0) in
-      let q = passes-pg b L p (y .0) in
-      let u = passes-place (rec L a 2) map g (z .1) in
-      (s .0, s .1, s .2, q .0, q .1, passes-not (wellFormed map) 5 (z .0), u .0, u .1)
-
-  pub passes-map-insecure : (a map g : ℕ) → mapInsecureCode b M L a map g ≡ 0
-      → (a < b .pages) × (rec L a 0 ≡ space) × (rec L a 3 ≡ building) × (wellFormed map ≡ true) × (executes map ≡ false) ×
-      Holds M (b .secure) (rec L a 2) map 0 × Insecure b g
-  unfolding mapInsecureCode placeCode
-  passes-map-insecure a map g e =
-      let x = or-none e in
-      let y = or-none (x .1) in
-      let z = or-none (y .1) in
-      let s = passes-building b L a (x .0) in
-      let u = passes-place (rec L a 2) map g (z .1) in
-      (s .0, s .1, s .2, passes-not (wellFormed map) 5 (y .0), passes (executes map) 5 (z .0), u .0, u .1)

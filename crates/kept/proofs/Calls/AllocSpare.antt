@@ -9,8 +9,8 @@ use Rattle.ledger.specs.Names.{spare}
 use Rattle.answer.specs.Answer.{done}
 use Rattle.answer.proofs.Laws.{kept-by-call}
 use Rattle.accept.specs.Accept.{Accepted}
-use Rattle.system.specs.Calls.{allocSpareCode, newSpare, allocSpare}
-use Rattle.system.proofs.Laws.{passes-alloc-spare}
+use Rattle.building.specs.Calls.{allocSpareCode, newSpare, allocSpare}
+use Rattle.building.proofs.Laws.{passes-alloc-spare}
 use Rattle.kept.proofs.Facts.Layouts.{rest-zero, layout-of}
 use Rattle.kept.proofs.Layers.Alloc.{gained, allocated, alloc-plain}
 

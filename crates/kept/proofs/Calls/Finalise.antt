@@ -14,7 +14,7 @@ use Rattle.ledger.proofs.Effects.{putHash-word}
 use Rattle.answer.specs.Answer.{buildingCode, done}
 use Rattle.answer.proofs.Laws.{kept-by-call, passes-building}
 use Rattle.accept.specs.Accept.{Runs, Accepted}
-use Rattle.system.specs.Calls.{finalised, finalise}
+use Rattle.building.specs.Calls.{finalised, finalise}
 use Rattle.kept.proofs.Facts.Leaves.{apart}
 use Rattle.kept.proofs.Facts.Bridge.{record-in}
 use Rattle.kept.proofs.Facts.Wrote.{Wrote, wrote-put, wrote-hash, wrote-then, wrote-header}

@@ -14,8 +14,8 @@ use Rattle.ledger.proofs.Effects.{length-occupy, occupy-header, occupy-same, oc
 use Rattle.answer.specs.Answer.{done}
 use Rattle.answer.proofs.Laws.{kept-by-call}
 use Rattle.accept.specs.Accept.{Accepted}
-use Rattle.system.specs.Calls.{initAddrSpaceCode, newSpace, initAddrSpace}
-use Rattle.system.proofs.Laws.{passes-init-addr-space}
+use Rattle.building.specs.Calls.{initAddrSpaceCode, newSpace, initAddrSpace}
+use Rattle.building.proofs.Laws.{passes-init-addr-space}
 use Rattle.kept.proofs.Layers.Frame.{runs-kept}
 use Rattle.kept.proofs.Layers.NewSpace.{Founds, open-kept}
 use Rattle.kept.proofs.Facts.Exact.{occupy-exact}

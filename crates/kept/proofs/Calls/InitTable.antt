@@ -10,8 +10,8 @@ use Rattle.walk.specs.Walk.{linked}
 use Rattle.answer.specs.Answer.{done}
 use Rattle.answer.proofs.Laws.{kept-by-call}
 use Rattle.accept.specs.Accept.{Accepted}
-use Rattle.system.specs.Calls.{initTableCode, newTable, initTable}
-use Rattle.system.proofs.Laws.{passes-init-table}
+use Rattle.building.specs.Calls.{initTableCode, newTable, initTable}
+use Rattle.building.proofs.Laws.{passes-init-table}
 use Rattle.kept.proofs.Layers.Alloc.{gained, allocated}
 use Rattle.kept.proofs.Layers.Become.{table-kept}
 

@@ -10,8 +10,8 @@ use Rattle.ledger.specs.Ledger.{hash}
 use Rattle.answer.specs.Answer.{done}
 use Rattle.answer.proofs.Laws.{kept-by-call}
 use Rattle.accept.specs.Accept.{Zeros, ThreadRec, Accepted}
-use Rattle.system.specs.Calls.{initThreadCode, addThread, newThread, initThread}
-use Rattle.system.proofs.Laws.{passes-init-thread}
+use Rattle.building.specs.Calls.{initThreadCode, addThread, newThread, initThread}
+use Rattle.building.proofs.Laws.{passes-init-thread}
 use Rattle.kept.proofs.Facts.Layouts.{rest-zero, layout-of}
 use Rattle.kept.proofs.Layers.Alloc.{measured-on, allocated, alloc-plain}
 

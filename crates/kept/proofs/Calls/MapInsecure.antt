@@ -19,8 +19,8 @@ use Rattle.walk.proofs.Laws.{Holds, filled-table}
 use Rattle.answer.specs.Answer.{done}
 use Rattle.answer.proofs.Laws.{kept-by-call}
 use Rattle.accept.specs.Accept.{SlotOk.outside, Accepted}
-use Rattle.system.specs.Calls.{mapInsecureCode, mapInsecure}
-use Rattle.system.proofs.Laws.{passes-map-insecure}
+use Rattle.building.specs.Calls.{mapInsecureCode, mapInsecure}
+use Rattle.building.proofs.Laws.{passes-map-insecure}
 use Rattle.kept.proofs.Facts.Mappings.{well-formed, rights-odd}
 use Rattle.kept.proofs.Facts.Leaves.{own-table}
 use Rattle.kept.proofs.Layers.Fill.{slot-kept}

@@ -12,8 +12,8 @@ use Rattle.walk.specs.Walk.{mapped}
 use Rattle.answer.specs.Answer.{done}
 use Rattle.answer.proofs.Laws.{kept-by-call}
 use Rattle.accept.specs.Accept.{Accepted}
-use Rattle.system.specs.Calls.{mapSecureCode, addPage, newData, mapSecure}
-use Rattle.system.proofs.Laws.{passes-map-secure}
+use Rattle.building.specs.Calls.{mapSecureCode, addPage, newData, mapSecure}
+use Rattle.building.proofs.Laws.{passes-map-secure}
 use Rattle.kept.proofs.Facts.Bridge.{page-in, frame-in}
 use Rattle.kept.proofs.Layers.Alloc.{measured-on, allocated}
 use Rattle.kept.proofs.Layers.Become.{data-page-kept}
