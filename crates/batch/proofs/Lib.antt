@@ -1,5 +1,3 @@
-pub mod Rows
-pub mod Form
 pub mod Obeying
 pub mod Obeyed
 pub mod Cut

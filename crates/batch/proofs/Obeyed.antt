@@ -10,7 +10,9 @@ use Rattle.words.proofs.Codes.{or-none}
 use Rattle.machine.specs.declared.Machine.{Machine}
 use Rattle.answer.specs.Refusals.{badRecord}
 use Rattle.answer.specs.Answer.{Out, refused, unless, call}
-use Rattle.batch.specs.Batch.{arg, Row, the-row, calls, lookup, turnCode, formCode, obeyRow, obey}
+use Rattle.records.specs.Records.{arg, turnCode, formCode}
+use Rattle.calls.specs.Table.{Row, the-row, calls, lookup}
+use Rattle.batch.specs.Batch.{obeyRow, obey}
 
 -- equal outcomes have equal parts
 pub parts : {x y : Out} → x ≡ y → (x .mem ≡ y .mem) × (x .led ≡ y .led) × (x .ans ≡ y .ans)

@@ -1,28 +1,19 @@
 -- One record as the code obeys it: how many arguments the call has, the form, then the call. Assumes nothing.
 use Prim.Native.Nat.{ℕ}
 use mathlib.Core.Path.{_≡_, refl, sym, ap, _∙_}
-use mathlib.Core.List.{List, []}
+use mathlib.Core.List.{List}
 use native.Mathlib.Omega.{arith}
-use lib.ListN.{take}
 use Rattle.machine.specs.declared.Machine.{Machine}
 use Rattle.answer.specs.Refusals.{badRecord}
 use Rattle.answer.specs.Answer.{Out, refused, call}
 use Rattle.answer.proofs.Laws.{call-refused, call-done}
-use Rattle.batch.specs.declared.calls.Arity.{Arity}
-use Rattle.batch.specs.declared.calls.Arity.the-variants.{Takes, NoCall}
-use Rattle.batch.specs.Batch.{Found, no-row, the-row, arg, calls, lookup, formCode, obeyRow, obey}
-use Rattle.batch.specs.Turns.{onRow, found, acted, enclaveCalls, actedEnclave, arityOf}
-use Rattle.batch.proofs.Rows.{number-is, Skipped, skipped}
-
--- ---- no arm of the enclave's, and none of the system's
-module _ (b : Machine) (M L W : List ℕ) where
-  pub enclave-none : Skipped (arg W 0) Unit enclaveCalls → refused badRecord M L ≡ actedEnclave b M L W
-  unfolding actedEnclave calls found lookup
-  enclave-none p = sym (skipped (arg W 0) enclaveCalls [] (refused badRecord M L) (λ r. r .acts b M L W) p)
-
-  pub system-none : {o : Out} → Skipped (arg W 0) Unit (take 13 calls) → o ≡ actedEnclave b M L W → o ≡ acted b M L W
-  unfolding acted actedEnclave calls
-  system-none p e = e ∙ sym (skipped (arg W 0) (take 13 calls) enclaveCalls (refused badRecord M L) (λ r. r .acts b M L W) p)
+use Rattle.records.specs.Records.{arg, formCode}
+use Rattle.calls.specs.declared.Arity.{Arity}
+use Rattle.calls.specs.declared.Arity.the-variants.{Takes, NoCall}
+use Rattle.calls.specs.Table.{Found, no-row, the-row, calls, lookup}
+use Rattle.calls.specs.Acted.{onRow, found, acted, arityOf}
+use Rattle.calls.proofs.Rows.{number-is}
+use Rattle.batch.specs.Batch.{obeyRow, obey}
 
 -- ---- the three ends: no such call, the form refused, and the call
 module _ (b : Machine) (M L W : List ℕ) {x : Arity} (e : x ≡ arityOf (arg W 0)) where

@@ -1,13 +1,13 @@
 // One record, and the records of a batch in order.
 
-use crate::calls::Arity;
-use crate::calls::act;
-use crate::calls::arguments;
-use crate::record::form_code;
-use crate::record::write_answer;
 use answer::Answer;
 use answer::BAD_RECORD;
+use calls::Arity;
+use calls::act;
+use calls::arguments;
 use machine::Machine;
+use records::form_code;
+use records::write_answer;
 use words::RECORD_WORDS;
 ghost use mathlib.Core.Path.{_≡_};
 ghost use Prim.Native.Nat.{_+_, _*_, _≤_};

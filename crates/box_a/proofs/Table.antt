@@ -14,7 +14,9 @@ use Rattle.accept.specs.Accept.{isFree, mapWord}
 use Rattle.building.specs.Calls.{initAddrSpaceCode, newSpace, initAddrSpace, initThreadCode, newThread, initThread, initTableCode, newTable, initTable, mapSecureCode, newData, mapSecure, finalised, finalise}
 use Rattle.system.specs.Calls.{getPhysPages, threadCode, enterCode, enterThread, resumeCode, resume, stop, removeSpaceCode, removeOtherCode, removeCode, left, remove, freeCount, lowestFree, freePages}
 use Rattle.enclave.specs.Calls.{exit, interrupt, fault, load, store}
-use Rattle.batch.specs.Batch.{calls, lookup, turnCode, formCode, obey, after, batch}
+use Rattle.records.specs.Records.{turnCode, formCode}
+use Rattle.calls.specs.Table.{calls, lookup}
+use Rattle.batch.specs.Batch.{obey, after, batch}
 use Rattle.boot.specs.Boot.{freshMap, freshLedger, freshMemory}
 use Rattle.box_a.specs.Shift.{row1, row2, row3, row4, row5, row6, row7, row8, shift, asked, answered, played, Shift}
 

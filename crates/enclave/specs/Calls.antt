@@ -1,49 +1,26 @@
--- Document 01, "Calls, checks left to right": calls 32-42, asked by the running enclave. They "act for the running thread's owner".
+-- Document 01, "Calls, checks left to right": calls 35-42, asked by the running enclave. They "act for the running thread's owner".
 -- Assumes nothing.
 use Prim.Native.Nat.{ℕ, _+_, _*_, _/_, _^_}
-use mathlib.Core.Bool.{Bool, true, false, not, _&&_}
+use mathlib.Core.Bool.{true, false, not}
 use mathlib.Core.List.{List, [], _∷_, _++_}
 use lib.ListN.{getD, take}
 use lib.Dec.{leb, eqb}
-use Rattle.words.specs.Words.{pick, when, first}
+use Rattle.words.specs.Words.{when, first}
 use Rattle.machine.specs.declared.Machine.{Machine}
 use Rattle.mapping.specs.Mapping.{wellFormed}
-use Rattle.sha256.specs.Hmac.{hmac}
 use Rattle.ledger.specs.Names.{suspendedWord, secondLevel, dataPage, spare}
-use Rattle.ledger.specs.Ledger.{typeOf, ownerOf, firstOf, mapOf, key, hash, eight, puts, anew, run}
+use Rattle.ledger.specs.Ledger.{typeOf, ownerOf, firstOf, mapOf, puts, anew, run}
 use Rattle.memory.specs.Memory.{frame, putWord, wiped}
 use Rattle.walk.specs.Walk.{translate, frameOf, wordOf, filled, mapped, linked}
 use Rattle.walk.specs.declared.Translated.{Translated}
 use Rattle.walk.specs.declared.Translated.the-variants.{Yes, No}
-use Rattle.answer.specs.declared.Answer.the-variants.{Attested, Interrupted, Faulted}
+use Rattle.answer.specs.declared.Answer.the-variants.{Interrupted, Faulted}
 use Rattle.answer.specs.Refusals.{noSuchPage, illFormed, notOwnSpare, notOwnData}
-use Rattle.answer.specs.Answer.{Out, asMac, answers, done, gives, call, addrCode, indexCode, running, owner}
+use Rattle.answer.specs.Answer.{Out, answers, done, gives, call, addrCode, indexCode, running, owner}
 
 -- the first-level page of the running thread's owner
 abbrev pub firstPage : List ℕ → ℕ
 firstPage L = firstOf L (owner L)
-
--- ---- 32 GetRandom w (from hardware): w
-unfoldable pub getRandom : List ℕ → List ℕ → ℕ → Out
-getRandom M L w = gives w M L
-
--- ---- 33 Attest 8 words: "The MAC is HMAC-SHA256 by the key over measurement then data (64 bytes)."
-unfoldable pub mac : List ℕ → List ℕ → List ℕ → List ℕ
-mac L measurement text = eight (hmac (key L) (measurement ++ text))
-
-unfoldable pub attest : List ℕ → List ℕ → List ℕ → Out
-attest M L text = answers (Attested (asMac (mac L (hash L (owner L)) text))) M L
-
--- ---- 34 Verify data 8, measurement 8, MAC 8: 1 or 0
-unfoldable pub sameWords : List ℕ → List ℕ → Bool
-sameWords [] [] = true
-sameWords [] (y ∷ ys) = false
-sameWords (x ∷ xs) [] = false
-sameWords (x ∷ xs) (y ∷ ys) = eqb x y && sameWords xs ys
-
-unfoldable pub verify : List ℕ → List ℕ → List ℕ → List ℕ → List ℕ → Out
-verify M L text measurement claim =
-    gives (pick (sameWords (mac L measurement text) claim) 1 0) M L
 
 -- ---- 35 InitL2PTable p, i: "1; not own spare 16; 21; 7"
 unfoldable pub ownSpareCode : Machine → List ℕ → ℕ → ℕ

@@ -1,12 +1,8 @@
-// Calls 32-42, asked by the running enclave: attestation, its own pages, the end of its run, loads and stores.
+// Calls 35-42, asked by the running enclave: its own pages, the end of its run, loads and stores.
 
-mod attesting;
 mod pages;
 mod run;
 
-pub use attesting::attest;
-pub use attesting::get_random;
-pub use attesting::verify;
 pub use pages::map_data;
 pub use pages::spare_table;
 pub use pages::unmap_data;

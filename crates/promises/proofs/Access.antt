@@ -15,7 +15,9 @@ use Rattle.ledger.specs.Names.{runningWord}
 use Rattle.answer.specs.Answer.{Out}
 use Rattle.answer.proofs.Laws.{call-done}
 use Rattle.enclave.specs.Calls.{fault, load, store}
-use Rattle.batch.specs.Batch.{arg, calls, lookup, turnCode, formCode, obey}
+use Rattle.records.specs.Records.{arg, turnCode, formCode}
+use Rattle.calls.specs.Table.{calls, lookup}
+use Rattle.batch.specs.Batch.{obey}
 use Rattle.batch.proofs.Obeyed.{parts}
 use Rattle.kept.proofs.Reach.Isolation.{reached-alone as alone}
 use Rattle.kept.proofs.Reach.Access.{OpenTo, load-touches, store-touches}

@@ -14,7 +14,9 @@ use Rattle.answer.specs.Answer.{Out, unless}
 use Rattle.accept.specs.Accept.{isFree, mapWord, Accepted}
 use Rattle.building.specs.Calls.{initAddrSpaceCode, newSpace, initAddrSpace}
 use Rattle.system.specs.Calls.{freePages, freeCount, lowestFree}
-use Rattle.batch.specs.Batch.{lookup, calls, turnCode, formCode, obey, after, batch}
+use Rattle.records.specs.Records.{turnCode, formCode}
+use Rattle.calls.specs.Table.{lookup, calls}
+use Rattle.batch.specs.Batch.{obey, after, batch}
 use Rattle.batch.specs.Service.{mostRecords, BatchFits, Batched}
 use Rattle.boot.specs.Boot.{freshMap, freshLedger, freshMemory}
 use Rattle.box_a.specs.Shift.{boxA, row1, row2, row3, row4, row5, row6, row7, row8, shift, asked, played}

@@ -14,8 +14,11 @@ use Rattle.walk.specs.declared.Translated.the-variants.{Yes, No}
 use Rattle.answer.specs.Answer.{Out, refused, unless, call}
 use Rattle.building.specs.Calls.{initAddrSpace, initThread, initTable, allocSpare, mapSecure, mapInsecure, finalise}
 use Rattle.system.specs.Calls.{getPhysPages, enterThread, resume, stop, remove, freePages}
-use Rattle.enclave.specs.Calls.{getRandom, attest, verify, spareTable, mapData, unmapData, exit, interrupt, fault, firstPage, loadThrough, load, storeThrough, store}
-use Rattle.batch.specs.Batch.{arg, calls, obey, batch}
+use Rattle.attesting.specs.Calls.{getRandom, attest, verify}
+use Rattle.enclave.specs.Calls.{spareTable, mapData, unmapData, exit, interrupt, fault, firstPage, loadThrough, load, storeThrough, store}
+use Rattle.records.specs.Records.{arg}
+use Rattle.calls.specs.Table.{calls}
+use Rattle.batch.specs.Batch.{obey, batch}
 use Rattle.batch.specs.Service.{Batched}
 use Rattle.batch.proofs.Obeyed.{parts, _and_, by-rows-alone}
 use Rattle.boot.specs.Boot.{Booted}

@@ -18,7 +18,8 @@ use Rattle.walk.specs.declared.Walked.the-variants.{At}
 use Rattle.walk.specs.Walk.{walk, frameOf}
 use Rattle.answer.specs.Answer.{Out}
 use Rattle.accept.specs.Accept.{Is, Accepted}
-use Rattle.batch.specs.Batch.{arg, obey}
+use Rattle.records.specs.Records.{arg}
+use Rattle.batch.specs.Batch.{obey}
 use Rattle.promises.specs.Kept.{History}
 
 -- a thread of space a runs

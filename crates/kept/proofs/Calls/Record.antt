@@ -14,7 +14,9 @@ use Rattle.ledger.specs.Ledger.{header}
 use Rattle.answer.specs.Refusals.{wrongTime}
 use Rattle.answer.specs.Answer.{running}
 use Rattle.accept.specs.Accept.{Accepted}
-use Rattle.batch.specs.Batch.{arg, args, calls, turnCode, obey, after, batch}
+use Rattle.records.specs.Records.{arg, args, turnCode}
+use Rattle.calls.specs.Table.{calls}
+use Rattle.batch.specs.Batch.{obey, after, batch}
 use Rattle.batch.proofs.Obeyed.{_and_, by-rows-alone}
 use Rattle.kept.proofs.Calls.InitAddrSpace.{kept-init-addr-space}
 use Rattle.kept.proofs.Calls.InitThread.{kept-init-thread}

@@ -4,7 +4,7 @@ use mathlib.Core.List.{List}
 use Rattle.machine.specs.declared.Machine.{Machine}
 use Rattle.accept.specs.Accept.{Accepted}
 use Rattle.system.specs.Calls.{getPhysPages, freePages}
-use Rattle.enclave.specs.Calls.{getRandom, attest, verify}
+use Rattle.attesting.specs.Calls.{getRandom, attest, verify}
 
 module _ (b : Machine) (M L : List ℕ) where
   pub kept-get-phys-pages : Accepted b M L → Accepted b (getPhysPages b M L .mem) (getPhysPages b M L .led)
