@@ -1,4 +1,5 @@
 pub mod Slots
+pub mod Stretches
 pub mod Sums
 pub mod Words
 pub mod FreeMap

@@ -1,8 +1,7 @@
 -- What a slot's value says, taken apart as the code takes it. Assumes nothing.
-use Prim.Native.Nat.{ℕ, _+_, _-_, _/_, _%_, _≤_, _<_}
+use Prim.Native.Nat.{ℕ, _+_, _-_, _/_, _%_, _<_}
 use mathlib.Core.Path.{_≡_, refl, subst}
 use mathlib.Core.Logic.{_⊎_, inl, inr, ⊎-elim}
-use native.Mathlib.Decide.{decLt}
 use native.Mathlib.Omega.{arith}
 use Rattle.machine.specs.declared.Machine.{Machine}
 use Rattle.machine.specs.Machine.{Insecure}
@@ -69,14 +68,6 @@ module _ {b : Machine} {w : Words} {a i j : ℕ} where
 
   pub inside-must : {f r : ℕ} → Slot b w a i j f r → (Insecure b f → ⊥) → Inside b w a i j f r
   inside-must s n = ⊎-elim (λ x. absurd (n (x .0))) (λ x. x) (s .where-to)
-
--- what holds below f and from f on for n numbers holds below f + n
-pub stretch-more : {P : ℕ → Type 0} (f n : ℕ) → ((x : ℕ) → x < f → P x) → ((x : ℕ) → f ≤ x → x < f + n → P x) → (x : ℕ) → x < f + n → P x
-stretch-more {P} f n low high x l = go (decLt x f)
-  where
-    go : Dec (x < f) → P x
-    go (yes h) = low x h
-    go (no h) = high x (omega arith) l
 
 -- ---- a word of a page that is named by words read before
 pub word-at : (m : Words) (s : ℕ) {v f g i k : ℕ} → v ≡ m (s + f) i → f ≡ g → i ≡ k → v ≡ m (s + g) k

@@ -1,14 +1,12 @@
 -- What a code of 0 says of an enclave's call, the facts that were tested; and an access by what it is translated to. Assumes nothing.
 use Prim.Native.Nat.{ℕ, suc, _+_, _<_}
 use mathlib.Core.Path.{_≡_}
-use mathlib.Core.Bool.{true, false, not}
+use mathlib.Core.Bool.{true, false}
 use mathlib.Core.List.{List}
-use lib.Dec.{leb, eqb}
-use Rattle.words.specs.Words.{when, or}
 use Rattle.words.proofs.Codes.{or-none, passes-not, in-range, is}
 use Rattle.machine.specs.declared.Machine.{Machine}
 use Rattle.mapping.specs.Mapping.{wellFormed}
-use Rattle.ledger.specs.Names.{dataPage, spare}
+use Rattle.ledger.specs.Names.{spare}
 use Rattle.ledger.specs.Ledger.{rec}
 use Rattle.memory.specs.Memory.{frame, putWord}
 use Rattle.walk.specs.Walk.{translate, frameOf, wordOf}
@@ -16,25 +14,16 @@ use Rattle.walk.specs.declared.Translated.the-variants.{Yes, No}
 use Rattle.walk.proofs.Laws.{Holds}
 use Rattle.answer.specs.Answer.{done, gives, owner}
 use Rattle.answer.proofs.Laws.{passes-addr, passes-index}
-use Rattle.enclave.specs.Calls.{firstPage, ownSpareCode, spareTableCode, mapDataCode, unmapDataCode, fault, load, store}
+use Rattle.enclave.specs.Calls.{firstPage, ownCode, spareTableCode, mapDataCode, fault, load, store}
 
 module _ (b : Machine) (L : List ℕ) (p : ℕ) where
   -- page p is the running thread's owner's, and of type t
-  passes-own : (t c : ℕ)
-      → or (when (leb (b .pages) p) 1) (or (when (not (eqb (rec L p 1) (owner L))) (suc c)) (when (not (eqb (rec L p 0) t)) (suc c))) ≡ 0
-      → (p < b .pages) × (rec L p 1 ≡ owner L) × (rec L p 0 ≡ t)
+  pub passes-own : (t c : ℕ) → ownCode b L p t (suc c) ≡ 0 → (p < b .pages) × (rec L p 1 ≡ owner L) × (rec L p 0 ≡ t)
+  unfolding ownCode
   passes-own t c e =
       let x = or-none e in
       let y = or-none (x .1) in
       (in-range (b .pages) p 0 (x .0), is (rec L p 1) (owner L) c (y .0), is (rec L p 0) t c (y .1))
-
-  pub passes-own-spare : ownSpareCode b L p ≡ 0 → (p < b .pages) × (rec L p 1 ≡ owner L) × (rec L p 0 ≡ spare)
-  unfolding ownSpareCode
-  passes-own-spare = passes-own spare 15
-
-  pub passes-unmap-data : unmapDataCode b L p ≡ 0 → (p < b .pages) × (rec L p 1 ≡ owner L) × (rec L p 0 ≡ dataPage)
-  unfolding unmapDataCode
-  passes-unmap-data = passes-own dataPage 16
 
 module _ (b : Machine) (M L : List ℕ) (p : ℕ) where
   pub passes-spare-table : (i : ℕ) → spareTableCode b M L p i ≡ 0
@@ -42,7 +31,7 @@ module _ (b : Machine) (M L : List ℕ) (p : ℕ) where
   unfolding spareTableCode
   passes-spare-table i e =
       let x = or-none e in
-      let y = passes-own-spare b L p (x .0) in
+      let y = passes-own b L p spare 15 (x .0) in
       let z = passes-index M (b .secure) (firstPage L) i (x .1) in
       (y .0, y .1, y .2, z .0, z .1)
 
@@ -51,7 +40,7 @@ module _ (b : Machine) (M L : List ℕ) (p : ℕ) where
   unfolding mapDataCode
   passes-map-data map e =
       let x = or-none e in
-      let y = passes-own-spare b L p (x .0) in
+      let y = passes-own b L p spare 15 (x .0) in
       let z = or-none (x .1) in
       (y .0, y .1, y .2, passes-not (wellFormed map) 5 (z .0), passes-addr M (b .secure) (firstPage L) map (z .1))
 

@@ -17,10 +17,11 @@ use Rattle.walk.specs.declared.Translated.the-variants.{Yes, No}
 use Rattle.walk.proofs.Laws.{length-filled}
 use Rattle.answer.specs.declared.Regs.{Regs}
 use Rattle.answer.specs.declared.Answer.the-variants.{Done, Value, Interrupted}
+use Rattle.answer.specs.Refusals.{notOwnData}
 use Rattle.answer.specs.Answer.{Out, done, gives, registers, numbers, running, owner}
 use Rattle.answer.proofs.Laws.{did}
-use Rattle.enclave.specs.Calls.{firstPage, spareTableCode, spareTable, mapDataCode, mapData, unmapDataCode, unmapData, topFour, interrupt, fault, load, store}
-use Rattle.enclave.proofs.Laws.{passes-spare-table, passes-map-data, passes-unmap-data, load-no, load-yes, store-no, store-yes}
+use Rattle.enclave.specs.Calls.{firstPage, spareTableCode, spareTable, mapDataCode, mapData, ownCode, unmapData, topFour, interrupt, fault, load, store}
+use Rattle.enclave.proofs.Laws.{passes-spare-table, passes-map-data, passes-own, load-no, load-yes, store-no, store-yes}
 
 -- ---- a page of the space's own
 -- a spare page's record has no word 2
@@ -37,10 +38,10 @@ module _ (b : Machine) (M L : List ℕ) (p : ℕ) {r : ℕ} (z : r ≡ 0) where
     pub data-fits : (map : ℕ) → r ≡ mapDataCode b M L p map → b .secure + p < 2 ^ 20
     data-fits map e = omega (arith, passes-map-data b M L p map (sym e ∙ z) .0)
 
-    pub data-lent : {N : List ℕ} (f va v : ℕ) → r ≡ unmapDataCode b L p → N ≡ filled M (b .secure) f va v
+    pub data-lent : {N : List ℕ} (f va v : ℕ) → r ≡ ownCode b L p dataPage notOwnData → N ≡ filled M (b .secure) f va v
         → frameWords * (b .secure + p) + frameWords ≤ length N
     data-lent f va v e n =
-        omega (arith, passes-unmap-data b L p (sym e ∙ z) .0, ap length n ∙ length-filled M (b .secure) f va v)
+        omega (arith, passes-own b L p dataPage 16 (sym e ∙ z) .0, ap length n ∙ length-filled M (b .secure) f va v)
 
   -- and what the code stores is the call's effect
   module _ {f a : ℕ} {M₁ L₁ : List ℕ} (ef : f ≡ firstPage L) (ea : a ≡ owner L) where
@@ -54,7 +55,7 @@ module _ (b : Machine) (M L : List ℕ) (p : ℕ) {r : ℕ} (z : r ≡ 0) where
     unfolding mapData
     data-mapped map e m l = did M L e z (cc) (cc)
 
-    pub data-unmapped : {map : ℕ} {N : List ℕ} → r ≡ unmapDataCode b L p → map ≡ rec L p 2 → N ≡ filled M (b .secure) f map 0
+    pub data-unmapped : {map : ℕ} {N : List ℕ} → r ≡ ownCode b L p dataPage notOwnData → map ≡ rec L p 2 → N ≡ filled M (b .secure) f map 0
         → M₁ ≡ wiped N (b .secure + p) → L₁ ≡ anew L p (spare ∷ a ∷ 0 ∷ []) → record { ans = numbers Done; mem = M₁; led = L₁ } ≡ unmapData b M L p
     unfolding unmapData
     data-unmapped e em n m l = did M L e z (cc) (cc (spare-anew L p a))

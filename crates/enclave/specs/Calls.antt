@@ -22,19 +22,20 @@ use Rattle.answer.specs.Answer.{Out, answers, done, gives, call, addrCode, inde
 abbrev pub firstPage : List ℕ → ℕ
 firstPage L = firstOf L (owner L)
 
--- ---- 35 InitL2PTable p, i: "1; not own spare 16; 21; 7"
-unfoldable pub ownSpareCode : Machine → List ℕ → ℕ → ℕ
-ownSpareCode b L p =
+-- "1; not own spare 16", "1; not own data 17": page p is the running thread's owner's and of type t, or c refuses
+unfoldable pub ownCode : Machine → List ℕ → ℕ → ℕ → ℕ → ℕ
+ownCode b L p t c =
     first
     (when (leb (b .pages) p) noSuchPage
-    ∷ when (not (eqb (ownerOf L p) (owner L))) notOwnSpare
-    ∷ when (not (eqb (typeOf L p) spare)) notOwnSpare
+    ∷ when (not (eqb (ownerOf L p) (owner L))) c
+    ∷ when (not (eqb (typeOf L p) t)) c
     ∷ [])
 
+-- ---- 35 InitL2PTable p, i: "1; not own spare 16; 21; 7"
 unfoldable pub spareTableCode : Machine → List ℕ → List ℕ → ℕ → ℕ → ℕ
 spareTableCode b M L p i =
     first
-    (ownSpareCode b L p
+    (ownCode b L p spare notOwnSpare
     ∷ indexCode M (b .secure) (firstPage L) i
     ∷ [])
 
@@ -50,7 +51,7 @@ spareTable b M L p i =
 unfoldable pub mapDataCode : Machine → List ℕ → List ℕ → ℕ → ℕ → ℕ
 mapDataCode b M L p map =
     first
-    (ownSpareCode b L p
+    (ownCode b L p spare notOwnSpare
     ∷ when (not (wellFormed map)) illFormed
     ∷ addrCode M (b .secure) (firstPage L) map
     ∷ [])
@@ -63,19 +64,10 @@ mapData b M L p map =
     let L₁ = anew L p (dataPage ∷ owner L ∷ map ∷ []) in
     done M₁ L₁)
 
--- ---- 37 UnmapData p: "1; not own data 17"
-unfoldable pub unmapDataCode : Machine → List ℕ → ℕ → ℕ
-unmapDataCode b L p =
-    first
-    (when (leb (b .pages) p) noSuchPage
-    ∷ when (not (eqb (ownerOf L p) (owner L))) notOwnData
-    ∷ when (not (eqb (typeOf L p) dataPage)) notOwnData
-    ∷ [])
-
--- "slot and memory zero, spare"
+-- ---- 37 UnmapData p: "1; not own data 17"; "slot and memory zero, spare"
 unfoldable pub unmapData : Machine → List ℕ → List ℕ → ℕ → Out
 unmapData b M L p =
-    call (unmapDataCode b L p) M L
+    call (ownCode b L p dataPage notOwnData) M L
     (let M₁ = filled M (b .secure) (firstPage L) (mapOf L p) 0 in
     let M₂ = wiped M₁ (b .secure + p) in
     let L₁ = anew L p (spare ∷ owner L ∷ []) in

@@ -28,7 +28,7 @@ use words::refuse;
 ghost use mathlib.Core.Path.{_≡_};
 ghost use Rattle.machine.specs.Machine.{Lent};
 ghost use Rattle.answer.specs.Answer.{numbers};
-ghost use Rattle.enclave.specs.Calls.{firstPage, ownSpareCode, spareTableCode, spareTable, mapDataCode, mapData, unmapDataCode, unmapData};
+ghost use Rattle.enclave.specs.Calls.{firstPage, ownCode, spareTableCode, spareTable, mapDataCode, mapData, unmapData};
 
 // The first-level page of the running thread's owner.
 pub fn first_page(led: &[u32]) -> u32
@@ -37,14 +37,15 @@ pub fn first_page(led: &[u32]) -> u32
     word(led, running_owner(led), FIRST_PAGE)
 }
 
-fn own_spare_code(b: Machine, led: &[u32], p: u32) -> u32
-    ensures { λ r. ⌜ r ≡ ownSpareCode b (now (led .entry)) p ⌝ }
+// Is p a page of the running thread's owner's, of type t?
+fn own_code(b: Machine, led: &[u32], p: u32, t: u32, refusal: u32) -> u32
+    ensures { λ r. ⌜ r ≡ ownCode b (now (led .entry)) p t refusal ⌝ }
 {
     either(
         refuse(b.pages <= p, NO_SUCH_PAGE),
         either(
-            refuse(word(led, p, OWNER) != running_owner(led), NOT_OWN_SPARE),
-            refuse(word(led, p, TYPE) != SPARE, NOT_OWN_SPARE),
+            refuse(word(led, p, OWNER) != running_owner(led), refusal),
+            refuse(word(led, p, TYPE) != t, refusal),
         ),
     )
 }
@@ -55,7 +56,7 @@ fn spare_table_code(b: Machine, mem: &[u32], led: &[u32], p: u32, i: u32) -> u32
     ensures { λ r. ⌜ r ≡ spareTableCode b (now (mem .entry)) (now (led .entry)) p i ⌝ }
 {
     either(
-        own_spare_code(b, led, p),
+        own_code(b, led, p, SPARE, NOT_OWN_SPARE),
         index_code(mem, b.secure, first_page(led), i),
     )
 }
@@ -80,7 +81,7 @@ fn map_data_code(b: Machine, mem: &[u32], led: &[u32], p: u32, map: Mapping) -> 
 {
     let addr = addr_code(mem, b.secure, first_page(led), map);
     either(
-        own_spare_code(b, led, p),
+        own_code(b, led, p, SPARE, NOT_OWN_SPARE),
         either(refuse(!map.well_formed(), ILL_FORMED), addr),
     )
 }
@@ -101,23 +102,11 @@ pub fn map_data(b: Machine, mem: &mut [u32], led: &mut [u32], p: u32, map: Mappi
 
 // ---- 37 UnmapData
 
-fn unmap_data_code(b: Machine, led: &[u32], p: u32) -> u32
-    ensures { λ r. ⌜ r ≡ unmapDataCode b (now (led .entry)) p ⌝ }
-{
-    either(
-        refuse(b.pages <= p, NO_SUCH_PAGE),
-        either(
-            refuse(word(led, p, OWNER) != running_owner(led), NOT_OWN_DATA),
-            refuse(word(led, p, TYPE) != DATA, NOT_OWN_DATA),
-        ),
-    )
-}
-
 pub fn unmap_data(b: Machine, mem: &mut [u32], led: &mut [u32], p: u32) -> Answer
     requires { ⌜ Lent b (now mem) (now led) ⌝ }
     ensures { λ r. ⌜ record { ans = numbers r; mem = now (mem .exit); led = now (led .exit) } ≡ unmapData b (now (mem .entry)) (now (led .entry)) p ⌝ }
 {
-    let code = unmap_data_code(b, led, p);
+    let code = own_code(b, led, p, DATA, NOT_OWN_DATA);
     if code != 0 {
         return Answer::Refused(code);
     }

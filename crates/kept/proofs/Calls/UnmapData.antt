@@ -13,11 +13,12 @@ use Rattle.memory.specs.Memory.{frame, putWord, wiped}
 use Rattle.memory.proofs.Frames.{length-putWord, putWord-same, length-wiped, wiped-same, wiped-other}
 use Rattle.walk.specs.Walk.{filled}
 use Rattle.walk.proofs.Laws.{filled-table}
+use Rattle.answer.specs.Refusals.{notOwnData}
 use Rattle.answer.specs.Answer.{done, owner}
 use Rattle.answer.proofs.Laws.{kept-by-call}
 use Rattle.accept.specs.Accept.{Is, Stands, Tables, Accepted}
-use Rattle.enclave.specs.Calls.{firstPage, unmapDataCode, unmapData}
-use Rattle.enclave.proofs.Laws.{passes-unmap-data}
+use Rattle.enclave.specs.Calls.{firstPage, ownCode, unmapData}
+use Rattle.enclave.proofs.Laws.{passes-own}
 use Rattle.kept.proofs.Facts.Leaves.{apart}
 use Rattle.kept.proofs.Layers.Empty.{empty-kept}
 use Rattle.kept.proofs.Facts.Bridge.{page-in, word-other, is-space, accepted}
@@ -70,9 +71,9 @@ pub kept-unmap-data : (b : Machine) (M L : List ℕ) (p t : ℕ) → header L ru
     → Accepted b (unmapData b M L p .mem) (unmapData b M L p .led)
 unfolding unmapData
 kept-unmap-data b M L p t e ok =
-    kept-by-call (Accepted b) (unmapDataCode b L p) M L
+    kept-by-call (Accepted b) (ownCode b L p dataPage notOwnData) M L
     (done (wiped (filled M (b .secure) (firstPage L) (rec L p 2) 0) (b .secure + p)) (anew L p (spare ∷ owner L ∷ []))) ok
     (λ z.
     let (al, type, now) = acts ok t e in
-    let (pl, own, was) = passes-unmap-data b L p z in
+    let (pl, own, was) = passes-own b L p dataPage 16 z in
     unmapped-kept ok al type now (record { below = pl; type = was; own = own }))
