@@ -3,6 +3,7 @@
 use Prim.Native.Nat.{ℕ, zero, suc, _+_, _*_, _/_, _%_}
 use mathlib.Core.Bool.{Bool, not, _&&_}
 use mathlib.Core.List.{List}
+use mathlib.Core.Option.{Option, none, some}
 use lib.Dec.{eqb, leb}
 use Rattle.words.specs.Words.{pick}
 use Rattle.mapping.specs.Mapping.{pageBytes, addressEnd, indexOf, slotOf, rightsOf, writes}
@@ -33,6 +34,14 @@ allowed write (At p v) = pick (eqb v 0) No (pick (write && not (writes v)) No (Y
 unfoldable pub translate : List ℕ → ℕ → ℕ → ℕ → Bool → Translated
 translate M s first va write =
     pick (not (eqb (va % 4) 0)) No (pick (leb addressEnd va) No (allowed write (walk 2 M s first va)))
+
+-- the same for whoever speaks of an access and not of the walk: none, or the slot's word
+abbrev pub slotIn : Translated → Option ℕ
+slotIn No = none
+slotIn (Yes v) = some v
+
+unfoldable pub slotFor : List ℕ → ℕ → ℕ → ℕ → Bool → Option ℕ
+slotFor M s first va write = slotIn (translate M s first va write)
 
 -- the frame that a slot names, and the word of it that an address names
 abbrev pub frameOf : ℕ → ℕ
