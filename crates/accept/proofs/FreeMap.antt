@@ -1,7 +1,6 @@
 -- A word of the free map, summed bit by bit. Assumes nothing.
 use Prim.Native.Nat.{ℕ, zero, suc, _+_, _*_, _%_, _^_, _≤_, _<_}
 use mathlib.Core.Path.{_≡_, refl, sym, _∙_}
-use mathlib.Core.Bool.{Bool, true, false}
 use native.Mathlib.Nat.{pow-suc, one-mul, zero-mul, lt-of-lt-of-le}
 use native.Mathlib.Numerals.{add-one}
 use native.Mathlib.Omega.{arith}
@@ -9,6 +8,7 @@ use lib.Dec.{eqb, ltb}
 use lib.Pow.{pow-mono, shl-exact}
 use borrow.Author.Tests.{eq-eqb, ne-eqb, lt-ltb, le-ltb}
 use Rattle.words.specs.Words.{sumBelow, pick}
+use Rattle.words.proofs.Cases.{pick-le}
 use Rattle.accept.specs.Accept.{Words, isFree, mapWord}
 
 module _ (n : ℕ) (w : Words) (p : ℕ) where
@@ -24,14 +24,10 @@ module _ (n : ℕ) (w : Words) (p : ℕ) where
   unfolding isFree
   is-free l e = simp (lt-ltb p n l, eq-eqb (w p 0) 0 e)
 
-  free-le : isFree n w p ≤ 1
+  pub free-le : isFree n w p ≤ 1
   unfolding isFree
-  free-le = bit-le (ltb p n) (eqb (w p 0) 0)
-    where
-      bit-le : (t q : Bool) → pick t (pick q 1 0) 0 ≤ 1
-      bit-le true true = omega arith
-      bit-le true false = omega arith
-      bit-le false q = omega arith
+  free-le =
+      pick-le (ltb p n) (pick (eqb (w p 0) 0) 1 0) 0 1 (pick-le (eqb (w p 0) 0) 1 0 1 (omega arith) (omega arith)) (omega arith)
 
 -- the i lowest bits of word j
 unfoldable pub lowBits : ℕ → Words → ℕ → ℕ → ℕ

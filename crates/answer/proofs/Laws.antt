@@ -78,12 +78,22 @@ unfolding unless
 call-done {code = zero} M L o e = refl
 call-done {code = suc code} M L o e = absurd (suc-ne-zero code e)
 
+-- what holds of every refusal, in two states, and of the effects where no check refuses, holds of the call
+pub by-codes : (M L M' L' : List ℕ) (R : Out → Out → Type 0) → ((c : ℕ) → (c ≡ 0 → ⊥) → R (refused c M L) (refused c M' L'))
+    → (code : ℕ) (o o' : Out) → (code ≡ 0 → R o o') → R (call code M L o) (call code M' L' o')
+unfolding unless
+by-codes M L M' L' R no-call zero o o' h = h refl
+by-codes M L M' L' R no-call (suc c) o o' h = no-call (suc c) (suc-ne-zero c)
+
+-- in one
+pub by-code : (M L : List ℕ) (P : Out → Type 0) → ((c : ℕ) → (c ≡ 0 → ⊥) → P (refused c M L)) → (code : ℕ) (o : Out) → (code ≡ 0 → P o)
+    → P (call code M L o)
+by-code M L P no-call code o = by-codes M L M L (λ x _. P x) no-call code o o
+
 -- what holds of the memory and the ledger, and is kept by the effect where no check refuses, is kept by the call
 pub kept-by-call : (P : List ℕ → List ℕ → Type 0) (code : ℕ) (M L : List ℕ) (o : Out) → P M L → (code ≡ 0 → P (o .mem) (o .led))
     → P (call code M L o .mem) (call code M L o .led)
-unfolding unless
-kept-by-call P zero M L o old new = new refl
-kept-by-call P (suc code) M L o old new = old
+kept-by-call P code M L o old new = by-code M L (λ x. P (x .mem) (x .led)) (λ _ _. old) code o new
 
 -- ---- the code's returns, from the check's result r: refused; done with the numbers vs
 pub said : {r code : ℕ} (M L : List ℕ) (o : Out) → r ≡ code → (r ≡ 0 → ⊥)

@@ -11,8 +11,8 @@ use Rattle.ledger.specs.Ledger.{rec}
 use Rattle.memory.specs.Memory.{frame, putWord}
 use Rattle.walk.specs.Walk.{translate, frameOf, wordOf}
 use Rattle.walk.specs.declared.Translated.the-variants.{Yes, No}
-use Rattle.walk.proofs.Laws.{Holds}
-use Rattle.answer.specs.Answer.{done, gives, owner}
+use Rattle.walk.proofs.Laws.{Holds, by-slot}
+use Rattle.answer.specs.Answer.{Out, done, gives, owner}
 use Rattle.answer.proofs.Laws.{passes-addr, passes-index}
 use Rattle.enclave.specs.Calls.{firstPage, ownCode, spareTableCode, mapDataCode, fault, load, store}
 
@@ -44,7 +44,7 @@ module _ (b : Machine) (M L : List ℕ) (p : ℕ) where
       let z = or-none (x .1) in
       (y .0, y .1, y .2, passes-not (wellFormed map) 5 (z .0), passes-addr M (b .secure) (firstPage L) map (z .1))
 
--- ---- an access is translated, or ends the run
+-- ---- an access is translated, or ends the run; what holds in both cases holds of the call
 module _ (b : Machine) (M L : List ℕ) (va : ℕ) where
   pub load-no : translate M (b .secure) (firstPage L) va false ≡ No → load b M L va ≡ fault M L
   unfolding load
@@ -54,6 +54,10 @@ module _ (b : Machine) (M L : List ℕ) (va : ℕ) where
   unfolding load
   load-yes e = rw e
 
+  pub by-load : (P : Out → Type 0) → (translate M (b .secure) (firstPage L) va false ≡ No → P (fault M L))
+      → ((v : ℕ) → translate M (b .secure) (firstPage L) va false ≡ Yes v → P (gives (frame M (frameOf v) (wordOf va)) M L)) → P (load b M L va)
+  by-load P faults gives = by-slot M (b .secure) (firstPage L) va false (λ e. rw (load-no e) (faults e)) (λ v e. rw (load-yes e) (gives v e))
+
   module _ (w : ℕ) where
     pub store-no : translate M (b .secure) (firstPage L) va true ≡ No → store b M L va w ≡ fault M L
     unfolding store
@@ -62,3 +66,8 @@ module _ (b : Machine) (M L : List ℕ) (va : ℕ) where
     pub store-yes : {v : ℕ} → translate M (b .secure) (firstPage L) va true ≡ Yes v → store b M L va w ≡ done (putWord M (frameOf v) (wordOf va) w) L
     unfolding store
     store-yes e = rw e
+
+    pub by-store : (P : Out → Type 0) → (translate M (b .secure) (firstPage L) va true ≡ No → P (fault M L))
+        → ((v : ℕ) → translate M (b .secure) (firstPage L) va true ≡ Yes v → P (done (putWord M (frameOf v) (wordOf va) w) L))
+        → P (store b M L va w)
+    by-store P faults puts = by-slot M (b .secure) (firstPage L) va true (λ e. rw (store-no e) (faults e)) (λ v e. rw (store-yes e) (puts v e))

@@ -1,16 +1,18 @@
 -- Each cheat is caught on box A as Boot leaves it. Assumes nothing.
-use Prim.Native.Nat.{ℕ, suc, _*_, _/_, _<_}
+use Prim.Native.Nat.{ℕ, suc, _+_, _*_, _/_, _<_}
 use mathlib.Core.Path.{_≡_, refl, sym, ap, _∙_}
 use mathlib.Core.List.{List, _∷_, _++_}
 use native.Mathlib.Omega.{arith}
-use lib.ListN.{length, getD, take, replicate, length-replicate}
+use lib.ListN.{length, getD, take, drop, replicate, length-replicate}
 use lib.Seq.{getD-take}
 use Rattle.words.specs.Words.{recordWords, bit, leastBelow, padded, bitOff, sumBelow, or, listBelow, allZero}
-use Rattle.words.proofs.Lists.{listed-all}
 use Rattle.machine.specs.declared.Machine.{Machine}
+use Rattle.machine.specs.Machine.{mapStart}
 use Rattle.sha256.specs.Sha256.{H0}
+use Rattle.ledger.specs.Names.{countWord, blocksWord}
 use Rattle.ledger.specs.Ledger.{header, rec, mapBit, put, puts, anew, mapOff, occupy}
 use Rattle.answer.specs.Answer.{Out, unless}
+use Rattle.answer.proofs.Laws.{by-code}
 use Rattle.accept.specs.Accept.{isFree, mapWord, Accepted}
 use Rattle.building.specs.Calls.{initAddrSpaceCode, newSpace, initAddrSpace}
 use Rattle.system.specs.Calls.{freePages, freeCount, lowestFree}
@@ -18,12 +20,13 @@ use Rattle.records.specs.Records.{turnCode, formCode}
 use Rattle.calls.specs.Table.{lookup, calls}
 use Rattle.batch.specs.Batch.{obey, after, batch}
 use Rattle.batch.specs.Service.{mostRecords, BatchFits, Batched}
+use Rattle.batch.proofs.Cut.{batch-take, cut}
 use Rattle.boot.specs.Boot.{freshMap, freshLedger, freshMemory}
-use Rattle.box_a.specs.Shift.{boxA, row1, row2, row3, row4, row5, row6, row7, row8, shift, asked, played}
-use Rattle.box_a.proofs.Table.{table}
+use Rattle.box_a.specs.Shift.{boxA, row1, row2, row3, row4, row5, row6, row7, row8, shift, asked, answered, played}
 use Rattle.box_a.proofs.Fresh.{accepted-a}
 use Rattle.promises.specs.Cheats.{Left, Service, Satisfies, Always, RefusesAll, NobodyRefusesAll, HasASingleReply, NobodyHasASingleReply, MovesNothing, NobodyMovesNothing, PlaysAllAtOnce, NobodyPlaysAllAtOnce, Counts, NobodyInventsCounts, MovingNothingKeeps}
-use Rattle.promises.proofs.Batches.{batch-take}
+use Rattle.promises.proofs.Settled.{answered-first}
+use Rattle.promises.proofs.Published.{shift-is-played}
 
 -- what a batch that is done leaves
 abbrev left : Out → Left
@@ -38,20 +41,45 @@ leaves S sat b M L W A fits = go (S b M L W A) (sat b M L W A)
     go o (Batched.done f e p) = ap (λ (r : ℕ). record { says = r; mem = o .mem; led = o .led; answers = o .answers }) e ∙ ap left p
     go o (Batched.ill-fitting n e m l a) = absurd (n fits)
 
--- ---- the first fourteen cases of the shift
-shift-words : length (take (recordWords * 14) (asked shift)) ≡ recordWords * 14
+-- ---- the first fifteen cases of the shift
+shift-words : length (take (recordWords * 15) (asked shift)) ≡ recordWords * 15
 unfolding padded shift asked row1 row2 row3 row4 row5 row6 row7 row8
 shift-words = refl
 
-counted : (S : Service) → Satisfies S → (M L A : List ℕ) → Accepted boxA M L → length A ≡ recordWords * 14
-    → Counts (left (batch boxA 14 M L (asked shift))) → Counts (S boxA M L (take (recordWords * 14) (asked shift)) A)
+shift-cases : length shift ≡ 15 + 22
+unfolding shift row1 row2 row3 row4 row5 row6 row7 row8
+shift-cases = refl
+
+counted : (S : Service) → Satisfies S → (M L A : List ℕ) → Accepted boxA M L → length A ≡ recordWords * 15
+    → Counts (left (batch boxA 15 M L (asked shift))) → Counts (S boxA M L (take (recordWords * 15) (asked shift)) A)
 counted S sat M L A ok size counts =
-    let W = take (recordWords * 14) (asked shift) in
+    let W = take (recordWords * 15) (asked shift) in
     let fits : BatchFits boxA M L W A
     = record { whole = rw shift-words refl; most = omega (arith, shift-words); answers = size ∙ sym shift-words; accepted = ok } in
-    let x : S boxA M L W A ≡ left (batch boxA 14 M L (asked shift))
-    = leaves S sat boxA M L W A fits ∙ rw shift-words (ap left (batch-take boxA 14 M L (asked shift))) in
+    let x : S boxA M L W A ≡ left (batch boxA 15 M L (asked shift))
+    = leaves S sat boxA M L W A fits ∙ rw shift-words (ap left (batch-take boxA 15 M L (asked shift))) in
     rw x counts
+
+-- the fifteenth, FreePages, leaves the ledger; and it is answered 3 and 5
+fifteenth : take recordWords (drop (recordWords * 14) (asked shift)) ≡ 13 ∷ replicate 31 0
+unfolding padded shift asked row1 row2 row3 row4 row5 row6 row7 row8
+fifteenth = refl
+
+free-pages-leave : (b : Machine) (M L : List ℕ) → obey b M L (13 ∷ replicate 31 0) .led ≡ L
+unfolding obey lookup calls freePages
+free-pages-leave b M L = by-code M L (λ o. o .led ≡ L) (λ _ _. refl) (formCode L 13 0 (13 ∷ replicate 31 0)) (freePages b M L) (λ _. refl)
+
+same-ledger : (M L : List ℕ) → batch boxA 15 M L (asked shift) .led ≡ batch boxA 14 M L (asked shift) .led
+unfolding batch after
+same-ledger M L =
+    let x = batch boxA 14 M L (asked shift) in
+    ap (λ (o : Out). o .led) (cut boxA 14 1 M L (asked shift))
+    ∙ ap (λ (W : List ℕ). obey boxA (x .mem) (x .led) W .led) fifteenth
+    ∙ free-pages-leave boxA (x .mem) (x .led)
+
+said : (getD (answered shift) (recordWords * 14 + 1) 0 ≡ 3) × (getD (answered shift) (recordWords * 14 + 2) 0 ≡ 5)
+unfolding padded shift answered row1 row2 row3 row4 row5 row6 row7 row8
+said = (refl, refl)
 
 -- ---- asked of box A as Boot leaves it, with a key of zeros: a record of zeros, the space of pages 0 and 1, and FreePages before that
 M₀ : List ℕ
@@ -86,7 +114,16 @@ record Played : Type 0 where
 
 runs : Played
 unfolding batch after obey lookup calls formCode turnCode allZero or unless freePages freeCount lowestFree mapBit leastBelow initAddrSpace initAddrSpaceCode newSpace occupy mapOff anew puts put padded rec header bitOff bit H0 freshLedger listBelow freshMap mapWord isFree sumBelow L₀
-runs = record { zeros-refused = refl; newly-done = refl; count-still = (refl, refl); count-before = refl; count-after = refl; newly-there = refl; newly-before = refl }
+runs =
+    record {
+      zeros-refused = refl;
+      newly-done = refl;
+      count-still = (refl, refl);
+      count-before = refl;
+      count-after = refl;
+      newly-there = refl;
+      newly-before = refl;
+    }
 
 -- what a cheat does, it does there
 module _ (P : Machine → List ℕ → List ℕ → List ℕ → Left → Type 0) (S : Service) (sat : Satisfies S) (always : Always P S) where
@@ -96,7 +133,12 @@ module _ (P : Machine → List ℕ → List ℕ → List ℕ → Left → Type 0
       let A : List ℕ = replicate (recordWords * suc k) 0 in
       let n : length W / recordWords ≡ suc k = omega arith in
       let fits : BatchFits boxA M₀ L₀ W A
-      = record { whole = omega arith; most = omega arith; answers = length-replicate {A = ℕ} (recordWords * suc k) 0 ∙ sym e; accepted = accepted-a (replicate 8 0) 0 refl } in
+      = record {
+        whole = omega arith;
+        most = omega arith;
+        answers = length-replicate {A = ℕ} (recordWords * suc k) 0 ∙ sym e;
+        accepted = accepted-a (replicate 8 0) 0 refl;
+      } in
       let x : S boxA M₀ L₀ W A ≡ left (batch boxA (suc k) M₀ L₀ W) = leaves S sat boxA M₀ L₀ W A fits ∙ rw n refl in
       rw x at (always boxA M₀ L₀ W A k e (ap (λ (o : Left). o .says) x))
 
@@ -124,10 +166,19 @@ nobody-plays-all-at-once S sat always =
 pub nobody-invents-counts : NobodyInventsCounts
 unfolding played
 nobody-invents-counts S sat key A v e size =
-    let t = rw (listed-all 8 key e) at
-    (table (getD key 0 0) (getD key 1 0) (getD key 2 0) (getD key 3 0) (getD key 4 0) (getD key 5 0) (getD key 6 0) (getD key 7 0) v) in
-    counted S sat (freshMemory boxA (replicate 16384 v)) (freshLedger boxA key) A (accepted-a key v e) size
-    (record { owned = t .owned; blocks = t .blocks; free-word = t .free-word })
+    let M = freshMemory boxA (replicate 16384 v) in
+    let L = freshLedger boxA key in
+    let t = shift-is-played key v e in
+    let all : (i : ℕ) → i < recordWords * 15 → getD (batch boxA 15 M L (asked shift) .ans) i 0 ≡ getD (answered shift) i 0
+    = λ i l. answered-first boxA 15 22 M L (asked shift) i l ∙ ap (λ (l : List ℕ). getD l i 0) (rw shift-cases at (t .answers)) in
+    counted S sat M L A (accepted-a key v e) size
+    (record {
+      owned = ap (λ (l : List ℕ). rec l 0 countWord) (same-ledger M L) ∙ t .owned;
+      blocks = ap (λ (l : List ℕ). rec l 0 blocksWord) (same-ledger M L) ∙ t .blocks;
+      free-word = ap (λ (l : List ℕ). header l mapStart) (same-ledger M L) ∙ t .free-word;
+      free-pages = all (recordWords * 14 + 1) (omega arith) ∙ said .0;
+      lowest-page = all (recordWords * 14 + 2) (omega arith) ∙ said .1;
+    })
 
 pub moving-nothing-keeps : MovingNothingKeeps
 moving-nothing-keeps S still b M L W A ok = let x = still b M L W A in rw (x .0, x .1) ok

@@ -1,12 +1,13 @@
 -- Document 01, "Try these cheats": no service that cheats satisfies `Batched`, the relation that the exported batch ensures; and why demand 3
 -- alone is not enough. Assumes nothing.
-use Prim.Native.Nat.{ℕ, suc, _*_}
+use Prim.Native.Nat.{ℕ, suc, _+_, _*_}
 use mathlib.Core.Path.{_≡_}
 use mathlib.Core.List.{List}
 use lib.ListN.{getD, length, take, replicate}
 use Rattle.words.specs.Words.{recordWords, padded}
 use Rattle.machine.specs.declared.Machine.{Machine}
 use Rattle.machine.specs.Machine.{mapStart}
+use Rattle.ledger.specs.Names.{countWord, blocksWord}
 use Rattle.ledger.specs.Ledger.{header, rec}
 use Rattle.accept.specs.Accept.{Accepted}
 use Rattle.batch.specs.Batch.{obey}
@@ -30,6 +31,10 @@ abbrev pub Satisfies : Service → Type 0
 Satisfies S =
     (b : Machine) (M L W A : List ℕ)
     → Batched b M L W A (S b M L W A .says) (S b M L W A .mem) (S b M L W A .led) (S b M L W A .answers)
+
+-- some service does: what follows is not about nothing
+abbrev pub SomebodyServes : Type 0
+SomebodyServes = (S : Service) × Satisfies S
 
 -- what a cheat does whenever it answers 0 to a list of one record or more
 abbrev pub Always : (Machine → List ℕ → List ℕ → List ℕ → Left → Type 0) → Service → Type 0
@@ -70,17 +75,19 @@ pub record PlaysAllAtOnce (b : Machine) (M L W : List ℕ) (o : Left) : Type 0 w
 abbrev pub NobodyPlaysAllAtOnce : Type 0
 NobodyPlaysAllAtOnce = Never PlaysAllAtOnce
 
--- "invented owned, block or free counts": after the first fourteen cases of the shift on box A the space owns 4 pages and has 66 blocks, and
--- pages 5, 6 and 7 are free (224), whatever the key and the word v that the memory held throughout
+-- "invented owned, block or free counts": after the first fifteen cases of the shift on box A the space owns 4 pages and has 66 blocks, pages
+-- 5, 6 and 7 are free (224), and the fifteenth, FreePages, answered 3 and 5; whatever the key and the word v that the memory held throughout
 pub record Counts (o : Left) : Type 0 where
-  pub owned : rec (o .led) 0 4 ≡ 4
-  pub blocks : rec (o .led) 0 5 ≡ 66
+  pub owned : rec (o .led) 0 countWord ≡ 4
+  pub blocks : rec (o .led) 0 blocksWord ≡ 66
   pub free-word : header (o .led) mapStart ≡ 224
+  pub free-pages : getD (o .answers) (recordWords * 14 + 1) 0 ≡ 3
+  pub lowest-page : getD (o .answers) (recordWords * 14 + 2) 0 ≡ 5
 
 abbrev pub NobodyInventsCounts : Type 0
 NobodyInventsCounts =
-    (S : Service) → Satisfies S → (key A : List ℕ) (v : ℕ) → length key ≡ 8 → length A ≡ recordWords * 14
-    → Counts (S boxA (freshMemory boxA (replicate 16384 v)) (freshLedger boxA key) (take (recordWords * 14) (asked shift)) A)
+    (S : Service) → Satisfies S → (key A : List ℕ) (v : ℕ) → length key ≡ 8 → length A ≡ recordWords * 15
+    → Counts (S boxA (freshMemory boxA (replicate 16384 v)) (freshLedger boxA key) (take (recordWords * 15) (asked shift)) A)
 
 -- why demand 3 alone is not enough: a service that moves nothing does keep acceptance
 abbrev pub MovingNothingKeeps : Type 0

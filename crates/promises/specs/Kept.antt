@@ -9,7 +9,8 @@ use Rattle.machine.specs.Machine.{frameWords, Insecure}
 use Rattle.memory.specs.Memory.{frame}
 use Rattle.accept.specs.Accept.{Accepted}
 use Rattle.batch.specs.Batch.{obey, batch}
-use Rattle.boot.specs.Boot.{freshLedger, freshMemory, BootFits}
+use Rattle.batch.specs.Service.{Batched}
+use Rattle.boot.specs.Boot.{freshLedger, freshMemory, BootFits, Booted}
 
 -- every record whatever, any words, refused or done
 abbrev pub EveryRecordKeeps : Type 0
@@ -41,3 +42,10 @@ HistoryKeeps = (b : Machine) (M₀ L₀ M L : List ℕ) → Accepted b M₀ L₀
 abbrev pub FreshIsAccepted : Type 0
 FreshIsAccepted =
     (b : Machine) (key M L : List ℕ) → BootFits b key M L → Accepted b (freshMemory b M) (freshLedger b key)
+
+-- of the services: where Boot and where the batch answer 0, what they leave is accepted
+abbrev pub BootLeavesAccepted : Type 0
+BootLeavesAccepted = (b : Machine) (key M L M' L' : List ℕ) → Booted b key M L 0 M' L' → Accepted b M' L'
+
+abbrev pub BatchLeavesAccepted : Type 0
+BatchLeavesAccepted = (b : Machine) (M L W A M' L' A' : List ℕ) → Batched b M L W A 0 M' L' A' → Accepted b M' L'

@@ -1,9 +1,10 @@
 -- All that is promised, by demand. Assumes nothing.
 use Rattle.promises.specs.Refused.{RefusedMovesNothing, ListCarriesOn, OutcomesStandAlone, EighteenMovesNothing, EmptyMovesNothing}
-use Rattle.promises.specs.Settled.{BootIsSettled, AcceptanceIsSettled, BatchIsSettled, CutInTwoIsTheSame, FreshGetsAYes}
+use Rattle.promises.specs.Settled.{EighteenExactlyWhen, BootIsSettled, AcceptanceIsSettled, BatchIsSettled, BatchIsItsRecords, CutInTwoIsTheSame, FreshGetsAYes}
+use Rattle.promises.specs.Published.{ShiftIsPlayed, AbcIsPublished, JefeIsPublished}
 use Rattle.promises.specs.Cheats.{NobodyRefusesAll, NobodyHasASingleReply, NobodyMovesNothing, NobodyPlaysAllAtOnce, NobodyInventsCounts, MovingNothingKeeps}
-use Rattle.promises.specs.Kept.{EveryRecordKeeps, EveryBatchKeeps, OutsidersKeep, HistoryKeeps, FreshIsAccepted}
-use Rattle.promises.specs.Access.{LoadTouchesOneWord, StoreTouchesOneWord, ReachedAlone, ReachedAloneAlways}
+use Rattle.promises.specs.Kept.{EveryRecordKeeps, EveryBatchKeeps, OutsidersKeep, HistoryKeeps, FreshIsAccepted, BootLeavesAccepted, BatchLeavesAccepted}
+use Rattle.promises.specs.Access.{LoadTouchesOneWord, StoreTouchesOneWord, AccessTellsNoMore, ReachedAlone, ReachedAloneAlways}
 
 pub record Promises : Type 0 where
   -- demand 1
@@ -12,11 +13,19 @@ pub record Promises : Type 0 where
   pub outcomes-stand-alone : OutcomesStandAlone
   pub eighteen-moves-nothing : EighteenMovesNothing
   pub empty-moves-nothing : EmptyMovesNothing
-  -- demand 2
+  -- demand 2: nothing is left open
+  pub eighteen-exactly-when : EighteenExactlyWhen
   pub boot-is-settled : BootIsSettled
   pub acceptance-is-settled : AcceptanceIsSettled
   pub batch-is-settled : BatchIsSettled
+  pub batch-is-its-records : BatchIsItsRecords
   pub cut-in-two-is-the-same : CutInTwoIsTheSame
+  -- .. the first refusal that applies, and what each call is for
+  -- .. measurements and attestations
+  -- .. worked cases, and cheats
+  pub shift-is-played : ShiftIsPlayed
+  pub abc-is-published : AbcIsPublished
+  pub jefe-is-published : JefeIsPublished
   pub fresh-gets-a-yes : FreshGetsAYes
   pub nobody-refuses-all : NobodyRefusesAll
   pub nobody-has-a-single-reply : NobodyHasASingleReply
@@ -24,13 +33,17 @@ pub record Promises : Type 0 where
   pub nobody-plays-all-at-once : NobodyPlaysAllAtOnce
   pub nobody-invents-counts : NobodyInventsCounts
   pub moving-nothing-keeps : MovingNothingKeeps
-  -- demand 3
+  -- demand 3: acceptance, and that it is kept
   pub every-record-keeps : EveryRecordKeeps
   pub every-batch-keeps : EveryBatchKeeps
   pub outsiders-keep : OutsidersKeep
   pub history-keeps : HistoryKeeps
   pub fresh-is-accepted : FreshIsAccepted
+  pub boot-leaves-accepted : BootLeavesAccepted
+  pub batch-leaves-accepted : BatchLeavesAccepted
+  -- .. what an enclave reaches, and what nobody does
   pub load-touches-one-word : LoadTouchesOneWord
   pub store-touches-one-word : StoreTouchesOneWord
+  pub access-tells-no-more : AccessTellsNoMore
   pub reached-alone : ReachedAlone
   pub reached-alone-always : ReachedAloneAlways

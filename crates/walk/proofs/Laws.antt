@@ -1,28 +1,46 @@
 -- The walk from a first-level page in terms of the memory's view, and what is found, filled and translated by it. Assumes nothing.
-use Prim.Native.Nat.{ℕ, zero, suc, _+_, _%_, _^_, _<_}
+use Prim.Native.Nat.{ℕ, zero, suc, _+_, _/_, _%_, _^_, _<_}
 use mathlib.Core.Path.{_≡_, refl, sym, ap, _∙_}
 use mathlib.Core.Bool.{Bool, true, false, not, _&&_}
 use mathlib.Core.List.{List}
+use mathlib.Core.Option.{some, none}
 use native.Mathlib.Numerals.{add-one}
 use native.Mathlib.Omega.{arith}
 use lib.Dec.{eqb, leb}
 use lib.ListN.{length}
 use borrow.Author.Tests.{eq-eqb, ne-eqb, lt-leb, leb-false, eqb-true, eqb-false, not-false}
 use Rattle.words.specs.Words.{pick}
-use Rattle.mapping.specs.Mapping.{indexOf, slotOf, rightsOf, writes}
+use Rattle.mapping.specs.Mapping.{pageBytes, indexOf, slotOf, rightsOf, writes}
 use Rattle.memory.specs.Memory.{frame, putWord}
 use Rattle.memory.proofs.Frames.{length-putWord}
 use Rattle.walk.specs.declared.Walked.{Walked}
 use Rattle.walk.specs.declared.Walked.the-variants.{At, NoTable}
 use Rattle.walk.specs.declared.Translated.{Translated}
 use Rattle.walk.specs.declared.Translated.the-variants.{Yes, No}
-use Rattle.walk.specs.Walk.{walk, allowed, translate, filled, slotWord, mapped, linked}
+use Rattle.walk.specs.Walk.{walk, allowed, translate, slotIn, slotFor, filled, slotWord, mapped, linked}
 
 -- the address has a table, and its slot there holds v
 pub record Holds (M : List ℕ) (s first va v : ℕ) : Type 0 where
   pub table : ℕ
   pub named : frame M (s + first) (indexOf va) ≡ table + 1
   pub slot : frame M (s + table) (slotOf va) ≡ v
+
+same-index : (v map : ℕ) → v / pageBytes ≡ map / pageBytes → indexOf v ≡ indexOf map
+same-index v map e = omega arith
+
+same-slot : (v map : ℕ) → v / pageBytes ≡ map / pageBytes → slotOf v ≡ slotOf map
+same-slot v map e = omega arith
+
+module _ {M : List ℕ} {s first : ℕ} where
+  -- the addresses of one page have one slot, and what it holds is one word
+  pub on-page : {map x : ℕ} (v : ℕ) → v / pageBytes ≡ map / pageBytes → Holds M s first map x → Holds M s first v x
+  on-page {map} v e h =
+      record { table = h .table; named = rw (same-index v map e) (h .named); slot = rw (same-slot v map e) (h .slot) }
+
+  pub one-word : {v x y : ℕ} → Holds M s first v x → Holds M s first v y → x ≡ y
+  one-word {v} h g =
+      let same : h .table ≡ g .table = omega (arith, h .named, g .named) in
+      sym (h .slot) ∙ ap (λ (T : ℕ). frame M (s + T) (slotOf v)) same ∙ g .slot
 
 -- ---- the walk: the first-level word is 0, or names a table
 module _ (M : List ℕ) (s first va : ℕ) where
@@ -35,15 +53,12 @@ module _ (M : List ℕ) (s first va : ℕ) where
   walk-table T e = rw (e ∙ add-one T)
 
   -- by the first-level word
-  pub by-word : {C : Type 0} → (frame M (s + first) (indexOf va) ≡ 0 → C) → ((T : ℕ) → frame M (s + first) (indexOf va) ≡ T + 1 → C) → C
-  by-word {C} none some = go (frame M (s + first) (indexOf va)) refl
+  pub by-word {ℓ} : {C : Type ℓ} → (frame M (s + first) (indexOf va) ≡ 0 → C) → ((T : ℕ) → frame M (s + first) (indexOf va) ≡ T + 1 → C) → C
+  by-word {C = C} nothing named = go (frame M (s + first) (indexOf va)) refl
     where
       go : (w : ℕ) → frame M (s + first) (indexOf va) ≡ w → C
-      go zero e = none e
-      go (suc T) e = some T (e ∙ sym (add-one T))
-
-  pub walked-nothing : walk 2 M s first va ≡ NoTable → frame M (s + first) (indexOf va) ≡ 0
-  walked-nothing e = by-word (λ z. z) (λ T t. cc (walk-table T t))
+      go zero e = nothing e
+      go (suc T) e = named T (e ∙ sym (add-one T))
 
   pub walked-at : {T v : ℕ} → walk 2 M s first va ≡ At T v → (frame M (s + first) (indexOf va) ≡ T + 1) × (frame M (s + T) (slotOf va) ≡ v)
   walked-at e = by-word (λ z. (cc (walk-nothing z), cc (walk-nothing z))) (λ U t. (cc (walk-table U t), cc (walk-table U t)))
@@ -77,24 +92,10 @@ module _ (M : List ℕ) (s first va v : ℕ) where
       by-word M s first va (λ z. ap length (filled-nothing (walk-nothing M s first va z)))
       (λ T t. ap length (filled-table T t) ∙ length-putWord M (s + T) (slotOf va) v)
 
-module _ (M : List ℕ) (s first map p : ℕ) where
-  pub mapped-nothing : walk 2 M s first map ≡ NoTable → mapped M s first map p ≡ M
-  unfolding mapped
-  mapped-nothing = filled-nothing M s first map (slotWord (s + p) (rightsOf map))
-
-  pub mapped-at : {T w : ℕ} → walk 2 M s first map ≡ At T w
-      → mapped M s first map p ≡ putWord M (s + T) (slotOf map) (slotWord (s + p) (rightsOf map))
-  unfolding mapped
-  mapped-at = filled-at M s first map (slotWord (s + p) (rightsOf map))
-
-  pub mapped-table : (T : ℕ) → frame M (s + first) (indexOf map) ≡ T + 1
-      → mapped M s first map p ≡ putWord M (s + T) (slotOf map) (slotWord (s + p) (rightsOf map))
-  unfolding mapped
-  mapped-table = filled-table M s first map (slotWord (s + p) (rightsOf map))
-
-  pub length-mapped : length (mapped M s first map p) ≡ length M
-  unfolding mapped
-  length-mapped = length-filled M s first map (slotWord (s + p) (rightsOf map))
+pub mapped-table : (M : List ℕ) (s first map p T : ℕ) → frame M (s + first) (indexOf map) ≡ T + 1
+    → mapped M s first map p ≡ putWord M (s + T) (slotOf map) (slotWord (s + p) (rightsOf map))
+unfolding mapped
+mapped-table M s first map p = filled-table M s first map (slotWord (s + p) (rightsOf map))
 
 -- ---- a table linked
 module _ (M : List ℕ) (s f i p : ℕ) where
@@ -158,3 +159,29 @@ module _ (M : List ℕ) (s first va : ℕ) (write : Bool) where
       go : (r : Bool) → (r ≡ true → writes v ≡ true) → pick (r && not (writes v)) No (Yes v) ≡ Yes v
       go true f = rw (f refl)
       go false f = refl
+
+  -- by what an access is translated to
+  pub by-slot {ℓ} : {C : Type ℓ} → (translate M s first va write ≡ No → C) → ((v : ℕ) → translate M s first va write ≡ Yes v → C) → C
+  by-slot {C = C} refuses gives = go (translate M s first va write) refl
+    where
+      go : (t : Translated) → translate M s first va write ≡ t → C
+      go No e = refuses e
+      go (Yes v) e = gives v e
+
+-- ---- what is found is what is translated
+module _ {M : List ℕ} {s first va : ℕ} {write : Bool} where
+  pub finds : {v : ℕ} → Translates M s first va write v → slotFor M s first va write ≡ some v
+  unfolding slotFor
+  finds h = ap slotIn (translates M s first va write h)
+
+  pub found : {v : ℕ} → slotFor M s first va write ≡ some v → Translates M s first va write v
+  unfolding slotFor
+  found {v} e = translated M s first va write (go (translate M s first va write) e)
+    where
+      go : (t : Translated) → slotIn t ≡ some v → t ≡ Yes v
+      go No e = absurd (let z : _≡_ {A = ℕ} 0 1 = cc in omega arith)
+      go (Yes u) e = cc
+
+  pub finds-none : ((v : ℕ) → Translates M s first va write v → ⊥) → slotFor M s first va write ≡ none
+  unfolding slotFor
+  finds-none never = by-slot M s first va write (ap slotIn) (λ v e. absurd (never v (translated M s first va write e)))

@@ -36,13 +36,14 @@ module _ {b : Machine} {M L : List ℕ} (ok : Accepted b M L) {a f : ℕ} (al : 
   ff' : rec half f 0 ≡ free
   ff' = occupy-other L a words (bit-in ok a al) f 0 (λ e. ne (sym e)) (omega arith) ∙ ff
 
-  opens : Founds b (rec L) (rec (occupy half f (firstLevel ∷ a ∷ []))) a f H0
-  opens =
+  pub founds : Founds b (rec L) (rec (newSpace L a f)) a f H0
+  unfolding newSpace
+  founds =
       record {
         space-words = λ k l.
             occupy-other half f (firstLevel ∷ a ∷ []) (bit-in ok f fl) a k ne l ∙ occupy-same L a words (bit-in ok a al) (record-in ok a al) k l;
         first-words = occupy-same half f (firstLevel ∷ a ∷ []) (bit-in ok f fl) (rw (length-occupy L a words) (record-in ok f fl));
-        others = λ q l na nf k kl.
+        others = λ q na nf k kl.
             occupy-other half f (firstLevel ∷ a ∷ []) (bit-in ok f fl) q k nf kl ∙ occupy-other L a words (bit-in ok a al) q k na kl;
       }
 
@@ -55,7 +56,7 @@ module _ {b : Machine} {M L : List ℕ} (ok : Accepted b M L) {a f : ℕ} (al : 
       occupy-header half f (firstLevel ∷ a ∷ []) k l (λ e. ⊎-elim (λ y. omega arith) (λ y. omega (arith, bit-in ok f fl)) o)
       ∙ occupy-header L a words k l (λ e. ⊎-elim (λ y. omega arith) (λ y. omega (arith, bit-in ok a al)) o) in
       accepted ok refl (length-occupy half f (firstLevel ∷ a ∷ []) ∙ length-occupy L a words)
-      (open-kept al fl af ff length-H0 (ok .rules) opens
+      (open-kept al fl af ff length-H0 (ok .rules) founds
       (header-kept ok
       (occupy-exact (occupy-exact (exact ok) a al words af (λ z. omega arith)) f fl (firstLevel ∷ a ∷ []) ff' (λ z. omega arith))
       (outside 0 (omega arith) (inl (omega arith)))
@@ -64,7 +65,7 @@ module _ {b : Machine} {M L : List ℕ} (ok : Accepted b M L) {a f : ℕ} (al : 
       runs-kept (ok .rules)
       (λ q l o.
       let nz : (p : ℕ) → rec L p 0 ≡ free → q ≡ p → ⊥ = λ p z e. let y = ap (λ (y : ℕ). rec L y 0) e in ⊎-elim (λ u. omega arith) (λ u. omega arith) o in
-      let s = opens .others q l (nz a af) (nz f ff) in
+      let s = founds .others q (nz a af) (nz f ff) in
       (s 0 (omega arith), s 1 (omega arith), s 3 (omega arith))))))
 
 pub kept-init-addr-space : (b : Machine) (M L : List ℕ) (a f : ℕ) → Accepted b M L

@@ -17,13 +17,13 @@ use Rattle.kept.proofs.Layers.Rewrite.{word-here, word-past, rewrite-ke
 use Rattle.kept.proofs.Facts.Acting.{runs}
 
 -- what is written: suspended, the registers, the flags
-abbrev saves : List ℕ → List ℕ
+abbrev pub saves : List ℕ → List ℕ
 saves regs = 1 ∷ take 16 regs ++ (topFour (getD regs 16 0) ∷ [])
 
-length-saves : (regs : List ℕ) → length (saves regs) ≡ length (take 16 regs) + 2
+pub length-saves : (regs : List ℕ) → length (saves regs) ≡ length (take 16 regs) + 2
 length-saves regs = omega (arith, length-append (take 16 regs) (topFour (getD regs 16 0) ∷ []))
 
-flags-last : (regs : List ℕ) → 16 ≤ length regs → getD (saves regs) 17 0 ≡ topFour (getD regs 16 0)
+pub flags-last : (regs : List ℕ) → 16 ≤ length regs → getD (saves regs) 17 0 ≡ topFour (getD regs 16 0)
 flags-last regs l =
     ap (λ (k : ℕ). getD (take 16 regs ++ (topFour (getD regs 16 0) ∷ [])) k 0) (sym (length-take-le 16 regs l))
     ∙ getD-append-seam (take 16 regs) (topFour (getD regs 16 0)) [] 0

@@ -1,12 +1,12 @@
 -- Call 37, UnmapData p, keeps what acceptance demands. Assumes nothing.
 use Prim.Native.Nat.{ℕ, _+_, _*_, _≤_, _<_}
-use mathlib.Core.Path.{_≡_, sym, ap, _∙_}
+use mathlib.Core.Path.{_≡_, _∙_}
 use mathlib.Core.List.{List, [], _∷_}
 use native.Mathlib.Omega.{arith}
 use lib.ListN.{length}
 use Rattle.machine.specs.declared.Machine.{Machine}
 use Rattle.machine.specs.Machine.{frameWords}
-use Rattle.mapping.specs.Mapping.{indexOf, slotOf}
+use Rattle.mapping.specs.Mapping.{slotOf}
 use Rattle.ledger.specs.Names.{runningWord, space, dataPage, spare, final}
 use Rattle.ledger.specs.Ledger.{header, rec, anew}
 use Rattle.memory.specs.Memory.{frame, putWord, wiped}
@@ -19,7 +19,7 @@ use Rattle.answer.proofs.Laws.{kept-by-call}
 use Rattle.accept.specs.Accept.{Is, Stands, Tables, Accepted}
 use Rattle.enclave.specs.Calls.{firstPage, ownCode, unmapData}
 use Rattle.enclave.proofs.Laws.{passes-own}
-use Rattle.kept.proofs.Facts.Leaves.{apart}
+use Rattle.kept.proofs.Facts.Leaves.{apart, stood}
 use Rattle.kept.proofs.Layers.Empty.{empty-kept}
 use Rattle.kept.proofs.Facts.Bridge.{page-in, word-other, is-space, accepted}
 use Rattle.kept.proofs.Layers.Convert.{converted}
@@ -30,18 +30,15 @@ module _ {b : Machine} {M L : List ℕ} (ok : Accepted b M L) {a p : ℕ} (al : 
   tables : Tables b (rec L) (frame M) a
   tables = ok .rules .spaces a al type .tables (λ z. omega arith)
 
-  stood : Stands b (rec L) (frame M) a p
-  stood = tables .stands p is-data
+  abbrev stands : Stands b (rec L) (frame M) a p
+  stands = tables .stands p is-data
 
   abbrev T : ℕ
-  T = stood .table
+  T = stands .table
 
   -- the memory with p's slot empty, and then with p's frame zero
   abbrev N : List ℕ
   N = putWord M (b .secure + T) (slotOf (rec L p 2)) 0
-
-  named : frame M (b .secure + rec L a 2) (indexOf (rec L p 2)) ≡ T + 1
-  named = ap (frame M (b .secure + rec L a 2)) (sym (stood .index)) ∙ tables .named T (stood .is-table)
 
   fits : frameWords * (b .secure + p) + frameWords ≤ length N
   fits = rw (length-putWord M (b .secure + T) (slotOf (rec L p 2)) 0) (page-in ok p (is-data .below))
@@ -54,15 +51,15 @@ module _ {b : Machine} {M L : List ℕ} (ok : Accepted b M L) {a p : ℕ} (al : 
       let j = slotOf (rec L p 2) in
       let d = is-data .type in
       let x = converted ok al type now (is-data .below) (is-data .own) (omega arith) spare [] (omega arith) in
-      rw (filled-table M (b .secure) (rec L a 2) (rec L p 2) 0 T named)
+      rw (filled-table M (b .secure) (rec L a 2) (rec L p 2) 0 T (stood tables is-data .named))
       (accepted ok (length-wiped N (b .secure + p) fits ∙ length-putWord M (b .secure + T) j 0) (x .size)
-      (empty-kept (is-space ok al type) tables is-data (ok .rules) (x .turns) stood
+      (empty-kept (is-space ok al type) tables is-data (ok .rules) (x .turns) stands
       (record {
         new = x .new;
         blank = wiped-same N (b .secure + p) fits;
         here =
-            other T j (apart (rec L) (stood .is-table .type) (is-data .type) (λ z. omega arith)) (omega arith)
-            ∙ putWord-same M (b .secure + T) j 0 (omega (arith, page-in ok T (stood .is-table .below)));
+            other T j (apart (rec L) (stands .is-table .type) (is-data .type) (λ z. omega arith)) (omega arith)
+            ∙ putWord-same M (b .secure + T) j 0 (omega (arith, page-in ok T (stands .is-table .below)));
         memory = λ q l n k kl nT. other q k n kl ∙ word-other M (b .secure) T j 0 q k (omega arith) kl nT;
       })
       (x .header)))

@@ -1,19 +1,20 @@
 -- From the lists that are lent to the views: what an accepted state gives, and what makes one. Assumes nothing.
-use Prim.Native.Nat.{ℕ, _+_, _*_, _≤_, _<_}
-use mathlib.Core.Path.{_≡_, sym, _∙_}
+use Prim.Native.Nat.{ℕ, _+_, _*_, _/_, _%_, _≤_, _<_}
+use mathlib.Core.Path.{_≡_, sym, ap, _∙_}
 use mathlib.Core.List.{List}
 use mathlib.Core.Logic.{⊎-elim}
 use native.Mathlib.Omega.{arith}
 use lib.ListN.{length}
-use Rattle.words.specs.Words.{recordWords}
+use Rattle.words.specs.Words.{recordWords, bit}
 use Rattle.words.proofs.Cases.{same-or}
 use Rattle.machine.specs.declared.Machine.{Machine}
 use Rattle.machine.specs.Machine.{mostPages, frameWords, headerWords, Insecure, mapWords, mapStart}
-use Rattle.ledger.specs.Names.{runningWord, free, space, building}
-use Rattle.ledger.specs.Ledger.{header, rec}
+use Rattle.ledger.specs.Names.{runningWord, free, space, building, stopped}
+use Rattle.ledger.specs.Ledger.{header, rec, mapBit}
 use Rattle.memory.specs.Memory.{frame, putWord}
 use Rattle.memory.proofs.Frames.{putWord-other}
-use Rattle.accept.specs.Accept.{Is, Runs, HeaderOk, Rules, Accepted}
+use Rattle.accept.specs.Accept.{Is, Tables, isFree, Runs, HeaderOk, Rules, Accepted}
+use Rattle.kept.proofs.Facts.FreeMap.{map-bit}
 use Rattle.kept.proofs.Facts.Sums.{count-sum, measured-sum}
 use Rattle.kept.proofs.Facts.Exact.{Exact}
 
@@ -25,6 +26,11 @@ module _ {b : Machine} {M L : List ℕ} (ok : Accepted b M L) where
   -- a page's bit lies in the map
   pub bit-in : (p : ℕ) → p < b .pages → p < 32 * mapWords
   bit-in p l = omega (arith, ok .lent .fits .pages-high)
+
+  -- and says whether it is free
+  pub bit-says : (p : ℕ) → p < 32 * mapWords → mapBit L p ≡ isFree (b .pages) (rec L) p
+  unfolding mapBit
+  bit-says p l = ap (λ (x : ℕ). bit x (p % 32)) (ok .rules .header .free-map (p / 32) (omega arith)) ∙ map-bit (b .pages) (rec L) p
 
   -- a page's record lies in the ledger, its frame and an insecure frame in the memory
   pub record-in : (p : ℕ) → p < b .pages → headerWords + recordWords * p + recordWords ≤ length L
@@ -48,6 +54,10 @@ module _ {b : Machine} {M L : List ℕ} (ok : Accepted b M L) where
     blocks-few =
         let s = ok .rules .spaces a al type in
         ⊎-elim (λ z. omega (arith, s .blocks z, measured-sum (b .pages) (rec L) a)) (s .room) (same-or (rec L a 3) building)
+
+    -- its tables, while it is not stopped
+    pub tables-of : (rec L a 3 ≡ stopped → ⊥) → Tables b (rec L) (frame M) a
+    tables-of = ok .rules .spaces a al type .tables
 
   -- a page in use has a space as owner
   pub owner-space : (p : ℕ) → p < b .pages → (rec L p 0 ≡ free → ⊥) → Is b (rec L) (rec L p 1) space (rec L p 1)

@@ -1,21 +1,15 @@
 -- What taking a page and giving it back do to the free map. Assumes nothing.
-use Prim.Native.Nat.{ℕ, _+_, _*_, _/_, _%_, _^_, _≤_, _<_}
+use Prim.Native.Nat.{ℕ, _+_, _*_, _/_, _%_, _^_, _<_}
 use mathlib.Core.Path.{_≡_, refl, sym, ap, _∙_}
 use mathlib.Core.Logic.{⊎-elim}
 use native.Mathlib.Omega.{arith}
-use lib.Dec.{eqb, ltb}
-use Rattle.words.specs.Words.{bit, bitOff, bitOn, sumBelow, pick}
+use Rattle.words.specs.Words.{bit, bitOff, bitOn, sumBelow}
 use Rattle.words.proofs.Bits.{bit-sum, off-one, on-zero}
 use Rattle.words.proofs.Sums.{sum-ext, sum-change}
-use Rattle.words.proofs.Cases.{same-or, pick-le, lt-or-ge}
+use Rattle.words.proofs.Cases.{same-or, lt-or-ge}
 use Rattle.ledger.specs.Names.{free}
 use Rattle.accept.specs.Accept.{Words, isFree, mapWord}
-use Rattle.accept.proofs.FreeMap.{past-pages, in-use, is-free}
-
-free-le : (n : ℕ) (w : Words) (p : ℕ) → isFree n w p ≤ 1
-unfolding isFree
-free-le n w p =
-    pick-le (ltb p n) (pick (eqb (w p 0) free) 1 0) 0 1 (pick-le (eqb (w p 0) free) 1 0 1 (omega arith) (omega arith)) (omega arith)
+use Rattle.accept.proofs.FreeMap.{past-pages, in-use, is-free, free-le}
 
 -- what is free goes by the types of the pages below n
 free-same : (n : ℕ) (w w' : Words) (q : ℕ) → (q < n → w' q 0 ≡ w q 0) → isFree n w q ≡ isFree n w' q
@@ -28,11 +22,8 @@ map-by : (n : ℕ) (w w' : Words) (j : ℕ) → ((i : ℕ) → i < 32 → isFree
 unfolding mapWord
 map-by n w w' j e = sum-ext 32 _ _ (λ i l. ap (λ (x : ℕ). x * 2 ^ i) (e i l))
 
-pub map-same : (n : ℕ) (w w' : Words) → ((q : ℕ) → q < n → w' q 0 ≡ w q 0) → (j : ℕ) → mapWord n w j ≡ mapWord n w' j
-map-same n w w' e j = map-by n w w' j (λ i _. free-same n w w' (32 * j + i) (e (32 * j + i)))
-
 -- page p's bit of the map says whether it is free
-map-bit : (n : ℕ) (w : Words) (p : ℕ) → bit (mapWord n w (p / 32)) (p % 32) ≡ isFree n w p
+pub map-bit : (n : ℕ) (w : Words) (p : ℕ) → bit (mapWord n w (p / 32)) (p % 32) ≡ isFree n w p
 unfolding mapWord
 map-bit n w p =
     let at : 32 * (p / 32) + p % 32 ≡ p = omega arith in

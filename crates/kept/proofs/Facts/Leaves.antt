@@ -5,10 +5,11 @@ use mathlib.Core.List.{List}
 use native.Mathlib.Omega.{arith}
 use Rattle.machine.specs.declared.Machine.{Machine}
 use Rattle.machine.specs.Machine.{frameWords}
-use Rattle.mapping.specs.Mapping.{indexOf, slotOf}
+use Rattle.mapping.specs.Mapping.{indexOf, slotOf, rightsOf}
 use Rattle.ledger.specs.Names.{firstLevel, secondLevel, dataPage}
-use Rattle.memory.specs.Memory.{frame}
-use Rattle.walk.proofs.Laws.{Holds}
+use Rattle.memory.specs.Memory.{frame, putWord}
+use Rattle.walk.specs.Walk.{mapped, slotWord}
+use Rattle.walk.proofs.Laws.{Holds, mapped-table}
 use Rattle.accept.specs.Accept.{Words, PageOk, Is, mappingOf, SlotOk, SlotOk.empty, SlotOk.outside, SlotOk.inside, Stands, Tables}
 
 -- a page keeps its type and its owner
@@ -42,6 +43,17 @@ pub own-table : {b : Machine} {w : Words} {M : List ℕ} {a va v : ℕ} → Tabl
     → Is b w a secondLevel (h .table) × (w (h .table) 2 ≡ indexOf va)
 own-table {va = va} old h = old .names (indexOf va) (h .table) (omega arith) (h .named)
 
+-- a data page's slot holds it
+abbrev pub stood : {b : Machine} {w : Words} {M : List ℕ} {a d : ℕ} → Tables b w (frame M) a → Is b w a dataPage d
+    → Holds M (b .secure) (w a 2) (w d 2) (slotWord (b .secure + d) (rightsOf (w d 2)))
+stood {b} {w} {M} {a} {d} old i =
+    let s = old .stands d i in
+    record {
+      table = s .table;
+      named = ap (frame M (b .secure + w a 2)) (sym (s .index)) ∙ old .named (s .table) (s .is-table);
+      slot = s .slot;
+    }
+
 -- first-level and second-level tables; and these with data pages
 abbrev pub Table : ℕ → Type 0
 Table t = (firstLevel ≤ t) × (t ≤ secondLevel)
@@ -52,6 +64,15 @@ Linked t = (firstLevel ≤ t) × (t ≤ dataPage)
 -- a page that is no table and no data page is none of these
 pub not-linked : {b : Machine} {w : Words} {a t q p : ℕ} → (Linked (w p 0) → ⊥) → Linked t → Is b w a t q → q ≡ p → ⊥
 not-linked {w = w} none l i = apart w (i .type) refl (λ z. none (omega arith))
+
+-- such a page p is mapped, in a memory N that is M but for p: the slot's table is M's
+pub mapped-besides : {b : Machine} {w : Words} {M : List ℕ} (N : List ℕ) {a p map v : ℕ} → Tables b w (frame M) a → (Linked (w p 0) → ⊥)
+    → ((q k : ℕ) → (q ≡ p → ⊥) → k < frameWords → frame N (b .secure + q) k ≡ frame M (b .secure + q) k)
+    → (h : Holds M (b .secure) (w a 2) map v)
+    → mapped N (b .secure) (w a 2) map p ≡ putWord N (b .secure + h .table) (slotOf map) (slotWord (b .secure + p) (rightsOf map))
+mapped-besides {b} {w} N {a} {p} {map} old plain other h =
+    mapped-table N (b .secure) (w a 2) map p (h .table)
+    (other (w a 2) (indexOf map) (not-linked plain (omega arith) (old .first)) (omega arith) ∙ h .named)
 
 pub leaves : {b : Machine} {w w' m m' : Words} {a : ℕ} → Tables b w m a
     → ((p : ℕ) → p < b .pages → PageOk b w m p)

@@ -8,9 +8,9 @@ use Rattle.words.specs.Words.{recordWords}
 use Rattle.machine.specs.declared.Machine.{Machine}
 use Rattle.machine.specs.Machine.{headerWords, mapStart}
 use Rattle.ledger.specs.Names.{free}
-use Rattle.ledger.specs.Ledger.{header, rec, put, puts, anew, putHash}
+use Rattle.ledger.specs.Ledger.{header, rec, put, puts, anew, gain, lose, putHash}
 use Rattle.ledger.proofs.Views.{length-put, put-page, put-header, length-puts, puts-page, puts-header, length-anew, anew-other, anew-header}
-use Rattle.ledger.proofs.Effects.{length-putHash, putHash-page, putHash-header}
+use Rattle.ledger.proofs.Effects.{length-gain, gain-header, gain-other, length-lose, lose-header, lose-other, length-putHash, putHash-page, putHash-header}
 use Rattle.accept.specs.Accept.{Runs, HeaderOk, Accepted}
 use Rattle.kept.proofs.Facts.FreeMap.{map-used}
 use Rattle.kept.proofs.Facts.Exact.{Exact}
@@ -33,6 +33,12 @@ wrote-anew L p vs = record { size = length-anew L p vs; head = anew-header L p v
 
 pub wrote-hash : (L : List ℕ) (p : ℕ) (h : List ℕ) → Wrote L (putHash L p h) p
 wrote-hash L p h = record { size = length-putHash L p h; head = putHash-header L p h; others = λ q n j jl. putHash-page L p h q j n jl }
+
+pub wrote-gain : (L : List ℕ) (p : ℕ) → Wrote L (gain L p) p
+wrote-gain L p = record { size = length-gain L p; head = gain-header L p; others = λ q n j jl. gain-other L p q j (λ e. n (omega arith)) }
+
+pub wrote-lose : (L : List ℕ) (p : ℕ) → Wrote L (lose L p) p
+wrote-lose L p = record { size = length-lose L p; head = lose-header L p; others = λ q n j jl. lose-other L p q j (λ e. n (omega arith)) }
 
 pub wrote-then : {L L' L'' : List ℕ} {p : ℕ} → Wrote L L' p → Wrote L' L'' p → Wrote L L'' p
 wrote-then x y =

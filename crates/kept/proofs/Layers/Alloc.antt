@@ -10,14 +10,14 @@ use Rattle.machine.specs.declared.Machine.{Machine}
 use Rattle.machine.specs.Machine.{headerWords, mapWords}
 use Rattle.ledger.specs.Names.{free, space, thread, building}
 use Rattle.ledger.specs.Ledger.{header, rec, occupy, gain, measure}
-use Rattle.ledger.proofs.Effects.{length-occupy, occupy-header, occupy-same, occupy-other, length-gain, gain-header, gain-count, gain-other, length-measure, measure-header, measure-blocks, measure-word, measure-page}
+use Rattle.ledger.proofs.Effects.{length-occupy, occupy-header, occupy-same, occupy-other, gain-count, gain-other, length-measure, measure-header, measure-blocks, measure-word, measure-page}
 use Rattle.accept.specs.Accept.{Zeros, Layout, counted, measured, HeaderOk, Accepted}
 use Rattle.kept.proofs.Facts.Sums.{counted-high}
 use Rattle.kept.proofs.Facts.Leaves.{Linked, apart}
 use Rattle.kept.proofs.Layers.Turn.{Turns, tables-plain, runs-turn, turn-kept}
 use Rattle.kept.proofs.Facts.Exact.{occupy-exact}
 use Rattle.kept.proofs.Facts.Bridge.{exact, bit-in, record-in, is-space, count-small, blocks-few, accepted, header-kept}
-use Rattle.kept.proofs.Facts.Wrote.{Wrote, wrote-then, wrote-exact}
+use Rattle.kept.proofs.Facts.Wrote.{Wrote, wrote-gain, wrote-then, wrote-exact}
 
 -- space a of L has in L' one page more and k blocks more, and any hash; all else is as it was
 pub record Charged (L L' : List ℕ) (a k : ℕ) : Type 0 where
@@ -29,7 +29,7 @@ pub record Charged (L L' : List ℕ) (a k : ℕ) : Type 0 where
 gain-charged : {L : List ℕ} {a : ℕ} → headerWords + recordWords * a + recordWords ≤ length L → rec L a 4 ≤ 1024 → Charged L (gain L a) a 0
 gain-charged {L} {a} fits small =
     record {
-      wrote = record { size = length-gain L a; head = gain-header L a; others = λ q n k l. gain-other L a q k (λ e. n (omega arith)) };
+      wrote = wrote-gain L a;
       count = gain-count L a (omega arith) ∙ omega arith;
       blocks = gain-other L a a 5 (λ e. omega arith) ∙ omega arith;
       word = λ j o. gain-other L a a j (λ e. ⊎-elim (λ l. omega arith) (λ l. omega arith) o);

@@ -9,18 +9,18 @@ use native.Mathlib.Omega.{arith}
 use lib.ListN.{length}
 use Rattle.machine.specs.declared.Machine.{Machine}
 use Rattle.machine.specs.Machine.{frameWords}
-use Rattle.mapping.specs.Mapping.{indexOf, slotOf, rightsOf, wellFormed}
+use Rattle.mapping.specs.Mapping.{slotOf, rightsOf, wellFormed}
 use Rattle.ledger.specs.Names.{free, space, secondLevel, dataPage, spare, stopped}
 use Rattle.ledger.specs.Ledger.{rec}
 use Rattle.memory.specs.Memory.{frame}
 use Rattle.memory.proofs.Frames.{length-putWord, putWord-same}
 use Rattle.walk.specs.Walk.{linked, mapped, slotWord}
-use Rattle.walk.proofs.Laws.{Holds, length-linked, mapped-table}
+use Rattle.walk.proofs.Laws.{Holds, length-linked}
 use Rattle.accept.specs.Accept.{Blank, Tables, Accepted}
-use Rattle.kept.proofs.Facts.Leaves.{Linked, not-linked, own-table}
+use Rattle.kept.proofs.Facts.Leaves.{Linked, own-table, mapped-besides}
 use Rattle.kept.proofs.Layers.Data.{data-kept}
 use Rattle.kept.proofs.Layers.Link.{link-kept}
-use Rattle.kept.proofs.Facts.Bridge.{page-in, word-other, is-space, accepted}
+use Rattle.kept.proofs.Facts.Bridge.{page-in, word-other, is-space, tables-of, accepted}
 use Rattle.kept.proofs.Layers.Alloc.{Allocated}
 
 module _ {b : Machine} {M L : List ℕ} (ok : Accepted b M L) {a : ℕ} (al : a < b .pages) (type : rec L a 0 ≡ space)
@@ -35,7 +35,7 @@ module _ {b : Machine} {M L : List ℕ} (ok : Accepted b M L) {a : ℕ} (al : a 
   blank = ⊎-elim (λ z. inl (omega arith)) (λ z. inr z) was
 
   tables : Tables b (rec L) (frame M) a
-  tables = ok .rules .spaces a al type .tables going
+  tables = tables-of ok al type going
 
   pub table-kept : {L' : List ℕ} (i : ℕ) → Allocated b L L' a p (secondLevel ∷ a ∷ i ∷ []) → i < 256 → frame M (b .secure + rec L a 2) i ≡ 0
       → Accepted b (linked M (b .secure) (rec L a 2) i p) L'
@@ -59,11 +59,9 @@ module _ {b : Machine} {M L : List ℕ} (ok : Accepted b M L) {a : ℕ} (al : a 
       → ((q k : ℕ) → (q ≡ p → ⊥) → k < frameWords → frame N (b .secure + q) k ≡ frame M (b .secure + q) k)
       → Accepted b (mapped N (b .secure) (rec L a 2) map p) L'
   data-page-kept map N x good place size other =
-      let f = rec L a 2 in
       let T = place .table in
       let v = slotWord (b .secure + p) (rightsOf map) in
-      let not-p : f ≡ p → ⊥ = not-linked plain (omega arith) (tables .first) in
-      rw (mapped-table N (b .secure) f map p T (other f (indexOf map) not-p (omega arith) ∙ place .named))
+      rw (mapped-besides N tables plain other place)
       (accepted ok (length-putWord N (b .secure + T) (slotOf map) v ∙ size) (x .size)
       (data-kept (is-space ok al type) going none plain (ok .rules) (x .turns)
       (record {

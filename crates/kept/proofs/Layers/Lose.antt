@@ -9,7 +9,7 @@ use Rattle.words.proofs.Sums.{sum-ge}
 use Rattle.machine.specs.declared.Machine.{Machine}
 use Rattle.ledger.specs.Names.{runningWord, free, space, spare, stopped}
 use Rattle.ledger.specs.Ledger.{header, rec, vacate, lose}
-use Rattle.ledger.proofs.Effects.{length-vacate, length-lose, lose-header, lose-count, lose-other}
+use Rattle.ledger.proofs.Effects.{length-vacate, length-lose, lose-count, lose-other}
 use Rattle.memory.specs.Memory.{wiped}
 use Rattle.memory.proofs.Frames.{length-wiped}
 use Rattle.accept.specs.Accept.{Is, tally, counted, measured, Accepted}
@@ -19,7 +19,7 @@ use Rattle.kept.proofs.Facts.Layouts.{layout-of}
 use Rattle.kept.proofs.Facts.Leaves.{apart}
 use Rattle.kept.proofs.Layers.Turn.{Turns, tables-plain, turn-kept}
 use Rattle.kept.proofs.Facts.Bridge.{exact, record-in, page-in, owner-space, count-small, accepted}
-use Rattle.kept.proofs.Facts.Wrote.{Wrote, wrote-exact}
+use Rattle.kept.proofs.Facts.Wrote.{wrote-lose, wrote-exact}
 use Rattle.kept.proofs.Layers.Vacate.{Vacated, vacated}
 
 module _ {b : Machine} {M L : List ℕ} (ok : Accepted b M L) (nobody : header L runningWord ≡ 0) {p : ℕ} (pl : p < b .pages)
@@ -42,9 +42,6 @@ module _ {b : Machine} {M L : List ℕ} (ok : Accepted b M L) (nobody : header L
   type-same : (q : ℕ) → rec K q 0 ≡ rec L q 0
   type-same q = lost q 0 (λ _ e. omega arith) (omega arith)
 
-  wrote : Wrote L K a
-  wrote = record { size = length-lose L a; head = lose-header L a; others = λ q n k l. lost q k (λ e _. n e) l }
-
   -- a's count, which is not 0, falls by one
   falls : rec K a 4 + 1 ≡ rec L a 4
   falls =
@@ -62,8 +59,8 @@ module _ {b : Machine} {M L : List ℕ} (ok : Accepted b M L) (nobody : header L
   done : Vacated b M K p
   done =
       let type = owned .type in
-      vacated ok nobody pl (wrote-exact (exact ok) wrote (owned .below) (λ z. omega arith) (λ z. omega (arith, type-same a)))
-      (λ z. omega (arith, type-same p)) (wrote .head)
+      vacated ok nobody pl (wrote-exact (exact ok) (wrote-lose L a) (owned .below) (λ z. omega arith) (λ z. omega (arith, type-same a)))
+      (λ z. omega (arith, type-same p)) (wrote-lose L a .head)
 
   free-now : rec (vacate K p) p 0 ≡ free
   free-now = done .gone 0 (omega arith) (omega arith)
@@ -89,7 +86,7 @@ module _ {b : Machine} {M L : List ℕ} (ok : Accepted b M L) (nobody : header L
 
   pub lost-kept : Accepted b (wiped M (b .secure + p)) (vacate (lose L a) p)
   lost-kept =
-      accepted ok (length-wiped M (b .secure + p) (page-in ok p pl)) (length-vacate K p ∙ wrote .size)
+      accepted ok (length-wiped M (b .secure + p) (page-in ok p pl)) (length-vacate K p ∙ length-lose L a)
       (turn-kept owned turns (ok .rules) (λ z. omega arith) (layout-of free-now (omega arith) (λ k lo hi. done .gone k (omega arith) hi))
       (λ z. absurd (omega (arith, free-now)))
       (λ _. done .blank)

@@ -21,7 +21,7 @@ use Rattle.kept.proofs.Layers.Frame.{Step, step-kept}
 pub record Founds (b : Machine) (w w' : Words) (a f : ℕ) (hash : List ℕ) : Type 0 where
   pub space-words : (k : ℕ) → k < recordWords → w' a k ≡ getD (space ∷ a ∷ f ∷ building ∷ 1 ∷ 0 ∷ hash) k 0
   pub first-words : (k : ℕ) → k < recordWords → w' f k ≡ getD (firstLevel ∷ a ∷ []) k 0
-  pub others : (q : ℕ) → q < b .pages → (q ≡ a → ⊥) → (q ≡ f → ⊥) → (k : ℕ) → k < recordWords → w' q k ≡ w q k
+  pub others : (q : ℕ) → (q ≡ a → ⊥) → (q ≡ f → ⊥) → (k : ℕ) → k < recordWords → w' q k ≡ w q k
 
 module _ {b : Machine} {h : ℕ → ℕ} {w w' m : Words} {a f : ℕ} {hash : List ℕ}
     (al : a < b .pages) (fl : f < b .pages) (af : w a 0 ≡ free) (ff : w f 0 ≡ free) (eight : length hash ≡ 8)
@@ -38,8 +38,8 @@ module _ {b : Machine} {h : ℕ → ℕ} {w w' m : Words} {a f : ℕ} {hash : Li
       -- nothing was owned by a, which was free
       not-mine : (q ≡ a → ⊥) → (q ≡ f → ⊥) → ⊥
       not-mine na nf =
-          let e₀ = x .others q (i .below) na nf 0 (omega arith) in
-          let e₁ = x .others q (i .below) na nf 1 (omega arith) in
+          let e₀ = x .others q na nf 0 (omega arith) in
+          let e₁ = x .others q na nf 1 (omega arith) in
           let o = ok .pages q (i .below) .owner (λ z. nz (sym (i .type) ∙ e₀ ∙ z)) .1 in
           let o' : w a 0 ≡ space = rw (sym e₁ ∙ i .own) at o in
           omega arith
@@ -123,7 +123,7 @@ module _ {b : Machine} {h : ℕ → ℕ} {w w' m : Words} {a f : ℕ} {hash : Li
             ⊎-elim (λ e. rw e (inr (inl af, inr (x .space-words 1 (omega arith)), page-a)))
             (λ na.
             ⊎-elim (λ e. rw e (inr (inl ff, inr (x .first-words 1 (omega arith)), page-f)))
-            (λ nf. inl (record { words = x .others q l na nf; memory = λ k kl. refl })) (same-or q f))
+            (λ nf. inl (record { words = x .others q na nf; memory = λ k kl. refl })) (same-or q f))
             (same-or q a);
         alive = λ q l nz e. x .space-words 0 (omega arith);
         self = λ e. space-ok;

@@ -1,9 +1,10 @@
 -- The promises hold. Assumes nothing.
 use Rattle.promises.proofs.Refused.{refused-moves-nothing, list-carries-on, outcomes-stand-alone, eighteen-moves-nothing, empty-moves-nothing}
-use Rattle.promises.proofs.Settled.{boot-is-settled, acceptance-is-settled, batch-is-settled, cut-in-two-is-the-same, fresh-gets-a-yes}
+use Rattle.promises.proofs.Settled.{eighteen-exactly-when, boot-is-settled, acceptance-is-settled, batch-is-settled, batch-is-its-records, cut-in-two-is-the-same, fresh-gets-a-yes}
+use Rattle.promises.proofs.Published.{shift-is-played, abc-is-published, jefe-is-published}
 use Rattle.promises.proofs.Cheats.{nobody-refuses-all, nobody-has-a-single-reply, nobody-moves-nothing, nobody-plays-all-at-once, nobody-invents-counts, moving-nothing-keeps}
-use Rattle.promises.proofs.Kept.{every-record-keeps, every-batch-keeps, outsiders-keep, history-keeps, fresh-is-accepted}
-use Rattle.promises.proofs.Access.{load-touches-one-word, store-touches-one-word, reached-alone, reached-alone-always}
+use Rattle.promises.proofs.Kept.{every-record-keeps, every-batch-keeps, outsiders-keep, history-keeps, fresh-is-accepted, boot-leaves-accepted, batch-leaves-accepted}
+use Rattle.promises.proofs.Access.{load-touches-one-word, store-touches-one-word, access-tells-no-more, reached-alone, reached-alone-always}
 use Rattle.promises.proofs.promised.Statement.{statement}
 use Rattle.promises.proofs.promised.Tie as tie
 
@@ -15,10 +16,15 @@ returns c =
       outcomes-stand-alone = outcomes-stand-alone;
       eighteen-moves-nothing = eighteen-moves-nothing;
       empty-moves-nothing = empty-moves-nothing;
+      eighteen-exactly-when = eighteen-exactly-when;
       boot-is-settled = boot-is-settled;
       acceptance-is-settled = acceptance-is-settled;
       batch-is-settled = batch-is-settled;
+      batch-is-its-records = batch-is-its-records;
       cut-in-two-is-the-same = cut-in-two-is-the-same;
+      shift-is-played = shift-is-played;
+      abc-is-published = abc-is-published;
+      jefe-is-published = jefe-is-published;
       fresh-gets-a-yes = fresh-gets-a-yes;
       nobody-refuses-all = nobody-refuses-all;
       nobody-has-a-single-reply = nobody-has-a-single-reply;
@@ -31,8 +37,11 @@ returns c =
       outsiders-keep = outsiders-keep;
       history-keeps = history-keeps;
       fresh-is-accepted = fresh-is-accepted;
+      boot-leaves-accepted = boot-leaves-accepted;
+      batch-leaves-accepted = batch-leaves-accepted;
       load-touches-one-word = load-touches-one-word;
       store-touches-one-word = store-touches-one-word;
+      access-tells-no-more = access-tells-no-more;
       reached-alone = reached-alone;
       reached-alone-always = reached-alone-always;
     }
