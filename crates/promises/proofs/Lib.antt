@@ -1,8 +1,10 @@
 pub mod Read
 pub mod Opened
 pub mod Refused
+pub mod Numbers
 pub mod Settled
 pub mod Kept
 pub mod Access
+pub mod Firsts
 pub mod Published
 pub mod Cheats

@@ -2,7 +2,9 @@ pub mod Terms
 pub mod Refused
 pub mod Kept
 pub mod Access
+pub mod Numbers
 pub mod Settled
+pub mod Firsts
 pub mod Published
 pub mod Cheats
 pub mod Promises

@@ -1,6 +1,8 @@
 -- All that is promised, by demand. Assumes nothing.
 use Rattle.promises.specs.Refused.{RefusedMovesNothing, ListCarriesOn, OutcomesStandAlone, EighteenMovesNothing, EmptyMovesNothing}
 use Rattle.promises.specs.Settled.{EighteenExactlyWhen, BootIsSettled, AcceptanceIsSettled, BatchIsSettled, BatchIsItsRecords, CutInTwoIsTheSame, FreshGetsAYes}
+use Rattle.promises.specs.Numbers.{NumbersAreTheDocuments}
+use Rattle.promises.specs.Firsts.{FirstRefusals}
 use Rattle.promises.specs.Published.{ShiftIsPlayed, AbcIsPublished, JefeIsPublished}
 use Rattle.promises.specs.Cheats.{NobodyRefusesAll, NobodyHasASingleReply, NobodyMovesNothing, NobodyPlaysAllAtOnce, NobodyInventsCounts, MovingNothingKeeps}
 use Rattle.promises.specs.Kept.{EveryRecordKeeps, EveryBatchKeeps, OutsidersKeep, HistoryKeeps, FreshIsAccepted, BootLeavesAccepted, BatchLeavesAccepted}
@@ -20,7 +22,9 @@ pub record Promises : Type 0 where
   pub batch-is-settled : BatchIsSettled
   pub batch-is-its-records : BatchIsItsRecords
   pub cut-in-two-is-the-same : CutInTwoIsTheSame
+  pub numbers-are-the-documents : NumbersAreTheDocuments
   -- .. the first refusal that applies, and what each call is for
+  pub first-refusals : FirstRefusals
   -- .. measurements and attestations
   -- .. worked cases, and cheats
   pub shift-is-played : ShiftIsPlayed

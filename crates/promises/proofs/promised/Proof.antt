@@ -1,6 +1,8 @@
 -- The promises hold. Assumes nothing.
 use Rattle.promises.proofs.Refused.{refused-moves-nothing, list-carries-on, outcomes-stand-alone, eighteen-moves-nothing, empty-moves-nothing}
 use Rattle.promises.proofs.Settled.{eighteen-exactly-when, boot-is-settled, acceptance-is-settled, batch-is-settled, batch-is-its-records, cut-in-two-is-the-same, fresh-gets-a-yes}
+use Rattle.promises.proofs.Numbers.{numbers-are-the-documents}
+use Rattle.promises.proofs.Firsts.{first-refusals}
 use Rattle.promises.proofs.Published.{shift-is-played, abc-is-published, jefe-is-published}
 use Rattle.promises.proofs.Cheats.{nobody-refuses-all, nobody-has-a-single-reply, nobody-moves-nothing, nobody-plays-all-at-once, nobody-invents-counts, moving-nothing-keeps}
 use Rattle.promises.proofs.Kept.{every-record-keeps, every-batch-keeps, outsiders-keep, history-keeps, fresh-is-accepted, boot-leaves-accepted, batch-leaves-accepted}
@@ -22,6 +24,8 @@ returns c =
       batch-is-settled = batch-is-settled;
       batch-is-its-records = batch-is-its-records;
       cut-in-two-is-the-same = cut-in-two-is-the-same;
+      numbers-are-the-documents = numbers-are-the-documents;
+      first-refusals = first-refusals;
       shift-is-played = shift-is-played;
       abc-is-published = abc-is-published;
       jefe-is-published = jefe-is-published;
