@@ -5,6 +5,11 @@ pub mod Numbers
 pub mod Settled
 pub mod Kept
 pub mod Access
+pub mod Moves
+pub mod Moved
+pub mod Else
+pub mod Written
+pub mod Shut
 pub mod Firsts
 pub mod Published
 pub mod Cheats

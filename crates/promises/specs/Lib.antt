@@ -2,6 +2,9 @@ pub mod Terms
 pub mod Refused
 pub mod Kept
 pub mod Access
+pub mod Shut
+pub mod Else
+pub mod Written
 pub mod Numbers
 pub mod Settled
 pub mod Firsts

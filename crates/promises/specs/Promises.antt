@@ -3,10 +3,13 @@ use Rattle.promises.specs.Refused.{RefusedMovesNothing, ListCarriesOn, O
 use Rattle.promises.specs.Settled.{EighteenExactlyWhen, BootIsSettled, AcceptanceIsSettled, BatchIsSettled, BatchIsItsRecords, CutInTwoIsTheSame, FreshGetsAYes}
 use Rattle.promises.specs.Numbers.{NumbersAreTheDocuments}
 use Rattle.promises.specs.Firsts.{FirstRefusals}
+use Rattle.promises.specs.Else.{NothingElse}
+use Rattle.promises.specs.Written.{NothingElseWritten}
 use Rattle.promises.specs.Published.{ShiftIsPlayed, AbcIsPublished, JefeIsPublished}
 use Rattle.promises.specs.Cheats.{NobodyRefusesAll, NobodyHasASingleReply, NobodyMovesNothing, NobodyPlaysAllAtOnce, NobodyInventsCounts, MovingNothingKeeps}
 use Rattle.promises.specs.Kept.{EveryRecordKeeps, EveryBatchKeeps, OutsidersKeep, HistoryKeeps, FreshIsAccepted, BootLeavesAccepted, BatchLeavesAccepted}
 use Rattle.promises.specs.Access.{LoadTouchesOneWord, StoreTouchesOneWord, AccessTellsNoMore, ReachedAlone, ReachedAloneAlways}
+use Rattle.promises.specs.Shut.{MonitorFramesStay, MonitorFramesUnread, OthersPagesStay, RemoveZeroesAlone}
 
 pub record Promises : Type 0 where
   -- demand 1
@@ -25,6 +28,8 @@ pub record Promises : Type 0 where
   pub numbers-are-the-documents : NumbersAreTheDocuments
   -- .. the first refusal that applies, and what each call is for
   pub first-refusals : FirstRefusals
+  pub nothing-else : NothingElse
+  pub nothing-else-written : NothingElseWritten
   -- .. measurements and attestations
   -- .. worked cases, and cheats
   pub shift-is-played : ShiftIsPlayed
@@ -51,3 +56,7 @@ pub record Promises : Type 0 where
   pub access-tells-no-more : AccessTellsNoMore
   pub reached-alone : ReachedAlone
   pub reached-alone-always : ReachedAloneAlways
+  pub monitor-frames-stay : MonitorFramesStay
+  pub monitor-frames-unread : MonitorFramesUnread
+  pub others-pages-stay : OthersPagesStay
+  pub remove-zeroes-alone : RemoveZeroesAlone

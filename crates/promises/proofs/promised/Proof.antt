@@ -3,10 +3,13 @@ use Rattle.promises.proofs.Refused.{refused-moves-nothing, list-carries
 use Rattle.promises.proofs.Settled.{eighteen-exactly-when, boot-is-settled, acceptance-is-settled, batch-is-settled, batch-is-its-records, cut-in-two-is-the-same, fresh-gets-a-yes}
 use Rattle.promises.proofs.Numbers.{numbers-are-the-documents}
 use Rattle.promises.proofs.Firsts.{first-refusals}
+use Rattle.promises.proofs.Else.{nothing-else}
+use Rattle.promises.proofs.Written.{nothing-else-written}
 use Rattle.promises.proofs.Published.{shift-is-played, abc-is-published, jefe-is-published}
 use Rattle.promises.proofs.Cheats.{nobody-refuses-all, nobody-has-a-single-reply, nobody-moves-nothing, nobody-plays-all-at-once, nobody-invents-counts, moving-nothing-keeps}
 use Rattle.promises.proofs.Kept.{every-record-keeps, every-batch-keeps, outsiders-keep, history-keeps, fresh-is-accepted, boot-leaves-accepted, batch-leaves-accepted}
 use Rattle.promises.proofs.Access.{load-touches-one-word, store-touches-one-word, access-tells-no-more, reached-alone, reached-alone-always}
+use Rattle.promises.proofs.Shut.{monitor-frames-stay, monitor-frames-unread, others-pages-stay, remove-zeroes-alone}
 use Rattle.promises.proofs.promised.Statement.{statement}
 use Rattle.promises.proofs.promised.Tie as tie
 
@@ -26,6 +29,8 @@ returns c =
       cut-in-two-is-the-same = cut-in-two-is-the-same;
       numbers-are-the-documents = numbers-are-the-documents;
       first-refusals = first-refusals;
+      nothing-else = nothing-else;
+      nothing-else-written = nothing-else-written;
       shift-is-played = shift-is-played;
       abc-is-published = abc-is-published;
       jefe-is-published = jefe-is-published;
@@ -48,6 +53,10 @@ returns c =
       access-tells-no-more = access-tells-no-more;
       reached-alone = reached-alone;
       reached-alone-always = reached-alone-always;
+      monitor-frames-stay = monitor-frames-stay;
+      monitor-frames-unread = monitor-frames-unread;
+      others-pages-stay = others-pages-stay;
+      remove-zeroes-alone = remove-zeroes-alone;
     }
 
 pub promised-spec : {M : Type 1} → statement M
