@@ -11,5 +11,6 @@ pub mod Else
 pub mod Written
 pub mod Shut
 pub mod Firsts
+pub mod Jobs
 pub mod Published
 pub mod Cheats

@@ -8,6 +8,7 @@ pub mod Written
 pub mod Numbers
 pub mod Settled
 pub mod Firsts
+pub mod Jobs
 pub mod Published
 pub mod Cheats
 pub mod Promises

@@ -3,6 +3,7 @@ use Rattle.promises.specs.Refused.{RefusedMovesNothing, ListCarriesOn, O
 use Rattle.promises.specs.Settled.{EighteenExactlyWhen, BootIsSettled, AcceptanceIsSettled, BatchIsSettled, BatchIsItsRecords, CutInTwoIsTheSame, FreshGetsAYes}
 use Rattle.promises.specs.Numbers.{NumbersAreTheDocuments}
 use Rattle.promises.specs.Firsts.{FirstRefusals}
+use Rattle.promises.specs.Jobs.{BootIsFor, GetPhysPagesIsFor, InitAddrSpaceIsFor, InitThreadIsFor, InitTableIsFor, AllocSpareIsFor, MapSecureIsFor, MapInsecureIsFor, FinaliseIsFor, EnterIsFor, ResumeIsFor, StopIsFor, RemoveIsFor, FreePagesIsFor, GetRandomIsFor, SpareTableIsFor, MapDataIsFor, UnmapDataIsFor, ExitIsFor, InterruptIsFor, FaultIsFor, StoreIsFor, DoneSaysNoMore}
 use Rattle.promises.specs.Else.{NothingElse}
 use Rattle.promises.specs.Written.{NothingElseWritten}
 use Rattle.promises.specs.Published.{ShiftIsPlayed, AbcIsPublished, JefeIsPublished}
@@ -28,6 +29,29 @@ pub record Promises : Type 0 where
   pub numbers-are-the-documents : NumbersAreTheDocuments
   -- .. the first refusal that applies, and what each call is for
   pub first-refusals : FirstRefusals
+  pub boot-is-for : BootIsFor
+  pub get-phys-pages-is-for : GetPhysPagesIsFor
+  pub init-addr-space-is-for : InitAddrSpaceIsFor
+  pub init-thread-is-for : InitThreadIsFor
+  pub init-table-is-for : InitTableIsFor
+  pub alloc-spare-is-for : AllocSpareIsFor
+  pub map-secure-is-for : MapSecureIsFor
+  pub map-insecure-is-for : MapInsecureIsFor
+  pub finalise-is-for : FinaliseIsFor
+  pub enter-is-for : EnterIsFor
+  pub resume-is-for : ResumeIsFor
+  pub stop-is-for : StopIsFor
+  pub remove-is-for : RemoveIsFor
+  pub free-pages-is-for : FreePagesIsFor
+  pub get-random-is-for : GetRandomIsFor
+  pub spare-table-is-for : SpareTableIsFor
+  pub map-data-is-for : MapDataIsFor
+  pub unmap-data-is-for : UnmapDataIsFor
+  pub exit-is-for : ExitIsFor
+  pub interrupt-is-for : InterruptIsFor
+  pub fault-is-for : FaultIsFor
+  pub store-is-for : StoreIsFor
+  pub done-says-no-more : DoneSaysNoMore
   pub nothing-else : NothingElse
   pub nothing-else-written : NothingElseWritten
   -- .. measurements and attestations

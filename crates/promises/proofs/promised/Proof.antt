@@ -3,6 +3,17 @@ use Rattle.promises.proofs.Refused.{refused-moves-nothing, list-carries
 use Rattle.promises.proofs.Settled.{eighteen-exactly-when, boot-is-settled, acceptance-is-settled, batch-is-settled, batch-is-its-records, cut-in-two-is-the-same, fresh-gets-a-yes}
 use Rattle.promises.proofs.Numbers.{numbers-are-the-documents}
 use Rattle.promises.proofs.Firsts.{first-refusals}
+use Rattle.promises.proofs.Jobs.Boot.{boot-is-for}
+use Rattle.promises.proofs.Jobs.Made.{init-addr-space-is-for, init-thread-is-for, alloc-spare-is-for}
+use Rattle.promises.proofs.Jobs.Tables.{init-table-is-for, spare-table-is-for}
+use Rattle.promises.proofs.Jobs.Maps.{map-secure-is-for, map-insecure-is-for, map-data-is-for, unmap-data-is-for}
+use Rattle.promises.proofs.Jobs.Ended.{finalise-is-for, stop-is-for, remove-is-for}
+use Rattle.promises.proofs.Jobs.Plain.{get-phys-pages-is-for, enter-is-for, get-random-is-for, exit-is-for, fault-is-for}
+use Rattle.promises.proofs.Jobs.Resume.{resume-is-for}
+use Rattle.promises.proofs.Jobs.Free.{free-pages-is-for}
+use Rattle.promises.proofs.Jobs.Interrupt.{interrupt-is-for}
+use Rattle.promises.proofs.Jobs.Store.{store-is-for}
+use Rattle.promises.proofs.Jobs.Silent.{done-says-no-more}
 use Rattle.promises.proofs.Else.{nothing-else}
 use Rattle.promises.proofs.Written.{nothing-else-written}
 use Rattle.promises.proofs.Published.{shift-is-played, abc-is-published, jefe-is-published}
@@ -29,6 +40,29 @@ returns c =
       cut-in-two-is-the-same = cut-in-two-is-the-same;
       numbers-are-the-documents = numbers-are-the-documents;
       first-refusals = first-refusals;
+      boot-is-for = boot-is-for;
+      get-phys-pages-is-for = get-phys-pages-is-for;
+      init-addr-space-is-for = init-addr-space-is-for;
+      init-thread-is-for = init-thread-is-for;
+      init-table-is-for = init-table-is-for;
+      alloc-spare-is-for = alloc-spare-is-for;
+      map-secure-is-for = map-secure-is-for;
+      map-insecure-is-for = map-insecure-is-for;
+      finalise-is-for = finalise-is-for;
+      enter-is-for = enter-is-for;
+      resume-is-for = resume-is-for;
+      stop-is-for = stop-is-for;
+      remove-is-for = remove-is-for;
+      free-pages-is-for = free-pages-is-for;
+      get-random-is-for = get-random-is-for;
+      spare-table-is-for = spare-table-is-for;
+      map-data-is-for = map-data-is-for;
+      unmap-data-is-for = unmap-data-is-for;
+      exit-is-for = exit-is-for;
+      interrupt-is-for = interrupt-is-for;
+      fault-is-for = fault-is-for;
+      store-is-for = store-is-for;
+      done-says-no-more = done-says-no-more;
       nothing-else = nothing-else;
       nothing-else-written = nothing-else-written;
       shift-is-played = shift-is-played;
