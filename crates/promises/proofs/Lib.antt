@@ -11,6 +11,8 @@ pub mod Else
 pub mod Written
 pub mod Shut
 pub mod Firsts
+pub mod Measured
+pub mod Attested
 pub mod Jobs
 pub mod Published
 pub mod Cheats

@@ -8,6 +8,8 @@ pub mod Written
 pub mod Numbers
 pub mod Settled
 pub mod Firsts
+pub mod Measured
+pub mod Attested
 pub mod Jobs
 pub mod Published
 pub mod Cheats

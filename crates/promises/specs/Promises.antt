@@ -6,6 +6,8 @@ use Rattle.promises.specs.Firsts.{FirstRefusals}
 use Rattle.promises.specs.Jobs.{BootIsFor, GetPhysPagesIsFor, InitAddrSpaceIsFor, InitThreadIsFor, InitTableIsFor, AllocSpareIsFor, MapSecureIsFor, MapInsecureIsFor, FinaliseIsFor, EnterIsFor, ResumeIsFor, StopIsFor, RemoveIsFor, FreePagesIsFor, GetRandomIsFor, SpareTableIsFor, MapDataIsFor, UnmapDataIsFor, ExitIsFor, InterruptIsFor, FaultIsFor, StoreIsFor, DoneSaysNoMore}
 use Rattle.promises.specs.Else.{NothingElse}
 use Rattle.promises.specs.Written.{NothingElseWritten}
+use Rattle.promises.specs.Measured.{MeasurementIsSha256}
+use Rattle.promises.specs.Attested.{AttestIsHmac, VerifyIsHmac, KeyStays, AttestedIsVerified}
 use Rattle.promises.specs.Published.{ShiftIsPlayed, AbcIsPublished, JefeIsPublished}
 use Rattle.promises.specs.Cheats.{NobodyRefusesAll, NobodyHasASingleReply, NobodyMovesNothing, NobodyPlaysAllAtOnce, NobodyInventsCounts, MovingNothingKeeps}
 use Rattle.promises.specs.Kept.{EveryRecordKeeps, EveryBatchKeeps, OutsidersKeep, HistoryKeeps, FreshIsAccepted, BootLeavesAccepted, BatchLeavesAccepted}
@@ -55,6 +57,11 @@ pub record Promises : Type 0 where
   pub nothing-else : NothingElse
   pub nothing-else-written : NothingElseWritten
   -- .. measurements and attestations
+  pub measurement-is-sha256 : MeasurementIsSha256
+  pub attest-is-hmac : AttestIsHmac
+  pub verify-is-hmac : VerifyIsHmac
+  pub key-stays : KeyStays
+  pub attested-is-verified : AttestedIsVerified
   -- .. worked cases, and cheats
   pub shift-is-played : ShiftIsPlayed
   pub abc-is-published : AbcIsPublished

@@ -16,6 +16,8 @@ use Rattle.promises.proofs.Jobs.Store.{store-is-for}
 use Rattle.promises.proofs.Jobs.Silent.{done-says-no-more}
 use Rattle.promises.proofs.Else.{nothing-else}
 use Rattle.promises.proofs.Written.{nothing-else-written}
+use Rattle.promises.proofs.Measured.{measurement-is-sha256}
+use Rattle.promises.proofs.Attested.{attest-is-hmac, verify-is-hmac, key-stays, attested-is-verified}
 use Rattle.promises.proofs.Published.{shift-is-played, abc-is-published, jefe-is-published}
 use Rattle.promises.proofs.Cheats.{nobody-refuses-all, nobody-has-a-single-reply, nobody-moves-nothing, nobody-plays-all-at-once, nobody-invents-counts, moving-nothing-keeps}
 use Rattle.promises.proofs.Kept.{every-record-keeps, every-batch-keeps, outsiders-keep, history-keeps, fresh-is-accepted, boot-leaves-accepted, batch-leaves-accepted}
@@ -65,6 +67,11 @@ returns c =
       done-says-no-more = done-says-no-more;
       nothing-else = nothing-else;
       nothing-else-written = nothing-else-written;
+      measurement-is-sha256 = measurement-is-sha256;
+      attest-is-hmac = attest-is-hmac;
+      verify-is-hmac = verify-is-hmac;
+      key-stays = key-stays;
+      attested-is-verified = attested-is-verified;
       shift-is-played = shift-is-played;
       abc-is-published = abc-is-published;
       jefe-is-published = jefe-is-published;
