@@ -15,4 +15,6 @@ pub mod Measured
 pub mod Attested
 pub mod Jobs
 pub mod Published
+pub mod Decided
+pub mod Demands
 pub mod Cheats

@@ -12,5 +12,6 @@ pub mod Measured
 pub mod Attested
 pub mod Jobs
 pub mod Published
+pub mod Demands
 pub mod Cheats
 pub mod Promises

@@ -9,7 +9,8 @@ use Rattle.promises.specs.Written.{NothingElseWritten}
 use Rattle.promises.specs.Measured.{MeasurementIsSha256}
 use Rattle.promises.specs.Attested.{AttestIsHmac, VerifyIsHmac, KeyStays, AttestedIsVerified}
 use Rattle.promises.specs.Published.{ShiftIsPlayed, AbcIsPublished, JefeIsPublished}
-use Rattle.promises.specs.Cheats.{NobodyRefusesAll, NobodyHasASingleReply, NobodyMovesNothing, NobodyPlaysAllAtOnce, NobodyInventsCounts, MovingNothingKeeps}
+use Rattle.promises.specs.Cheats.{SomebodyServes, NobodyRefusesAll, NobodyHasASingleReply, NobodyMovesNothing, NobodyPlaysAllAtOnce, NobodyInventsCounts, MovingNothingKeeps}
+use Rattle.promises.specs.Demands.{AcceptanceDemands}
 use Rattle.promises.specs.Kept.{EveryRecordKeeps, EveryBatchKeeps, OutsidersKeep, HistoryKeeps, FreshIsAccepted, BootLeavesAccepted, BatchLeavesAccepted}
 use Rattle.promises.specs.Access.{LoadTouchesOneWord, StoreTouchesOneWord, AccessTellsNoMore, ReachedAlone, ReachedAloneAlways}
 use Rattle.promises.specs.Shut.{MonitorFramesStay, MonitorFramesUnread, OthersPagesStay, RemoveZeroesAlone}
@@ -67,6 +68,7 @@ pub record Promises : Type 0 where
   pub abc-is-published : AbcIsPublished
   pub jefe-is-published : JefeIsPublished
   pub fresh-gets-a-yes : FreshGetsAYes
+  pub somebody-serves : SomebodyServes
   pub nobody-refuses-all : NobodyRefusesAll
   pub nobody-has-a-single-reply : NobodyHasASingleReply
   pub nobody-moves-nothing : NobodyMovesNothing
@@ -74,6 +76,7 @@ pub record Promises : Type 0 where
   pub nobody-invents-counts : NobodyInventsCounts
   pub moving-nothing-keeps : MovingNothingKeeps
   -- demand 3: acceptance, and that it is kept
+  pub acceptance-demands : AcceptanceDemands
   pub every-record-keeps : EveryRecordKeeps
   pub every-batch-keeps : EveryBatchKeeps
   pub outsiders-keep : OutsidersKeep

@@ -19,7 +19,9 @@ use Rattle.promises.proofs.Written.{nothing-else-written}
 use Rattle.promises.proofs.Measured.{measurement-is-sha256}
 use Rattle.promises.proofs.Attested.{attest-is-hmac, verify-is-hmac, key-stays, attested-is-verified}
 use Rattle.promises.proofs.Published.{shift-is-played, abc-is-published, jefe-is-published}
+use Rattle.promises.proofs.Decided.{somebody-serves}
 use Rattle.promises.proofs.Cheats.{nobody-refuses-all, nobody-has-a-single-reply, nobody-moves-nothing, nobody-plays-all-at-once, nobody-invents-counts, moving-nothing-keeps}
+use Rattle.promises.proofs.Demands.{acceptance-demands}
 use Rattle.promises.proofs.Kept.{every-record-keeps, every-batch-keeps, outsiders-keep, history-keeps, fresh-is-accepted, boot-leaves-accepted, batch-leaves-accepted}
 use Rattle.promises.proofs.Access.{load-touches-one-word, store-touches-one-word, access-tells-no-more, reached-alone, reached-alone-always}
 use Rattle.promises.proofs.Shut.{monitor-frames-stay, monitor-frames-unread, others-pages-stay, remove-zeroes-alone}
@@ -76,12 +78,14 @@ returns c =
       abc-is-published = abc-is-published;
       jefe-is-published = jefe-is-published;
       fresh-gets-a-yes = fresh-gets-a-yes;
+      somebody-serves = somebody-serves;
       nobody-refuses-all = nobody-refuses-all;
       nobody-has-a-single-reply = nobody-has-a-single-reply;
       nobody-moves-nothing = nobody-moves-nothing;
       nobody-plays-all-at-once = nobody-plays-all-at-once;
       nobody-invents-counts = nobody-invents-counts;
       moving-nothing-keeps = moving-nothing-keeps;
+      acceptance-demands = acceptance-demands;
       every-record-keeps = every-record-keeps;
       every-batch-keeps = every-batch-keeps;
       outsiders-keep = outsiders-keep;
