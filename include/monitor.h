@@ -7,7 +7,7 @@
    What the services promise, for any words and numbers whatever:
    - Each answers and returns. They keep nothing between calls and call nothing back.
    - What does not fit gets MONITOR_UNFIT (monitor_accepts: false), and then every lent word is as it was.
-   - Otherwise the answer and every lent word afterwards are those that the build description lays down, and no others.
+   - Otherwise the answer and every lent word afterwards are those that docs/RULES.md lays down, and no others.
 
    What the host owes, which C cannot check:
    - Each pointer is not null, aligned for uint32_t, and good for the number of words beside it, also where that number is 0.
