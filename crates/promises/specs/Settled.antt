@@ -1,4 +1,5 @@
--- Demand 2: "Nothing about an answer is left open." For each service, two outcomes that satisfy its relation are one. Assumes nothing.
+-- Demand 2: "Nothing about an answer is left open." For each service, two outcomes that satisfy its relation are one; when it answers 18; and
+-- that a batch is its records, obeyed in order. Assumes nothing.
 use Prim.Native.Nat.{ℕ, zero, suc, _+_, _*_, _%_, _≤_, _<_}
 use mathlib.Core.Path.{_≡_}
 use mathlib.Core.Bool.{Bool, true}
