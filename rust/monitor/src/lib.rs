@@ -46,26 +46,8 @@
 //! - [`words`] is the three services as they are exported, words and numbers;
 //!   [`layout`] has the sizes and places.
 
-mod answer;
-mod call;
-pub mod layout;
-mod ledger;
-mod machine;
-mod mapping;
-mod memory;
 mod monitor;
-mod page;
-mod record;
-mod refusal;
 pub mod words;
 
-pub use answer::{Answer, Registers};
-pub use call::Call;
-pub use ledger::{Key, Ledger};
-pub use machine::Machine;
-pub use mapping::Mapping;
-pub use memory::Memory;
-pub use monitor::{Monitor, Unfit};
-pub use page::{Page, Space, State, Thread};
-pub use record::Record;
-pub use refusal::Refusal;
+pub use monitor::Monitor;
+pub use types::*;

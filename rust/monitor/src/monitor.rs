@@ -1,25 +1,7 @@
-use crate::answer::Answer;
-use crate::call::Call;
-use crate::layout::RECORD_WORDS;
-use crate::ledger::{Key, Ledger};
-use crate::machine::Machine;
-use crate::memory::Memory;
-use crate::record::Record;
-use crate::words::{self, DONE};
-use std::fmt;
-
-/// 18: machine numbers or lengths do not fit, or acceptance says no. Nothing
-/// has changed.
-#[derive(Clone, Copy, Debug, PartialEq, Eq)]
-pub struct Unfit;
-
-impl fmt::Display for Unfit {
-    fn fmt(&self, out: &mut fmt::Formatter) -> fmt::Result {
-        out.write_str("numbers or lengths do not fit, or the words are not accepted (18)")
-    }
-}
-
-impl std::error::Error for Unfit {}
+use crate::words;
+use types::code::DONE;
+use types::layout::RECORD_WORDS;
+use types::{Answer, Call, Key, Ledger, Machine, Memory, Record, Unfit};
 
 /// The monitor over a machine's lent words, which it owns or borrows.
 ///

@@ -19,12 +19,8 @@
 //! assert_eq!(answers[..2], [0, 8]);
 //! ```
 
-use crate::machine::Machine;
-
-/// The answer of a service that did its work.
-pub const DONE: u32 = 0;
-/// The answer where numbers or lengths do not fit, or acceptance says no.
-pub const UNFIT: u32 = 18;
+pub use types::code::{DONE, UNFIT};
+use types::Machine;
 
 /// As in `include/monitor.h`. A slice is a pointer and a count of words; the
 /// library reads and writes within the slices, for as long as a call takes.

@@ -1,21 +1,13 @@
 //! Plays calls on a box by the proved library: the worked shift with a picture
 //! of the ledger after each step, or a plan of calls from a file.
 
-pub mod options;
 pub mod picture;
-pub mod plan;
 pub mod run;
 pub mod shift;
 
 use monitor::layout::{MOST_CALLS, RECORD_WORDS};
 use monitor::{Answer, Call, Key, Ledger, Machine, Memory, Monitor, Record, Refusal, Unfit};
-use plan::Item;
-
-/// What is wrong with what was asked, in one line.
-pub type Complaint = String;
-
-/// The key where none is given.
-pub const KEY: Key = [1, 2, 3, 4, 5, 6, 7, 8];
+use plan::text::Item;
 
 /// A fresh box. Before boot each word of memory holds its own place, so that
 /// copied pages can be told apart; boot zeroes the secure frames.

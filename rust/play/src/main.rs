@@ -1,8 +1,9 @@
 //! Plays what the words ask for. What is wrong is said in one line, with
 //! status 2, and nothing is printed then.
 
-use play::options::{self, Asked};
-use play::{run, shift, Complaint};
+use plan::options::{self, Asked};
+use plan::Complaint;
+use play::{run, shift};
 use std::io::{IsTerminal, Write};
 use std::process::ExitCode;
 

@@ -1,16 +1,17 @@
 //! Plays a plan and prints its answers.
 
-use crate::options::Plan;
-use crate::{fresh, plan, play, Complaint, Played};
+use crate::{fresh, play, Played};
+use plan::options::Plan;
+use plan::{text, Complaint};
 use std::fmt::Write;
 
 /// Plays the plan in its file; what is to be printed.
 pub fn run(asked: &Plan) -> Result<String, Complaint> {
     let file = &asked.file;
-    let text = std::fs::read(file).map_err(|fault| {
+    let bytes = std::fs::read(file).map_err(|fault| {
         format!("{file}: expected a plan of calls, and it cannot be read: {}", reason(&fault))
     })?;
-    let plan = plan::read(&text).map_err(|what| format!("{file}:{what}"))?;
+    let plan = text::read(&bytes).map_err(|what| format!("{file}:{what}"))?;
     let unfit = |fault: monitor::Unfit| format!("{file}: {fault}");
     let mut bench = fresh(asked.machine, &asked.key).map_err(unfit)?;
     let played = play(&mut bench, &plan).map_err(unfit)?;

@@ -1,8 +1,9 @@
 //! The shift on box A, step by step.
 
 use crate::picture::picture;
-use crate::{fresh, plan, play, Complaint, KEY};
+use crate::{fresh, play};
 use monitor::Machine;
+use plan::{text, Complaint, KEY};
 use std::fmt::Write;
 
 /// The steps: what each shows, and its calls as a plan.
@@ -32,7 +33,7 @@ pub fn shift(colour: bool) -> Result<String, Complaint> {
     text += &picture(bench.ledger(), colour);
     for (number, (title, calls)) in (1..).zip(STEPS) {
         write!(text, "\n{number}. {title}\n\n").expect("a string");
-        for played in play(&mut bench, &plan::read(calls.as_bytes())?).map_err(unfit)? {
+        for played in play(&mut bench, &text::read(calls.as_bytes())?).map_err(unfit)? {
             let (call, code, words) = (played.item, played.answer.code(), played.in_words());
             writeln!(text, "   {call:24} {code:3}  {words}").expect("a string");
         }

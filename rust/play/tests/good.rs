@@ -5,7 +5,7 @@ mod common;
 
 use common::{play, Folder};
 use monitor::layout::{MOST_CALLS, MOST_PAGES, RECORD_WORDS};
-use play::plan::read;
+use plan::text::read;
 
 fn words(text: &str) -> Vec<Vec<u32>> {
     let items = read(text.as_bytes()).expect(text);

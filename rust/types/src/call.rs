@@ -1,14 +1,14 @@
-use crate::answer::Registers;
 use crate::layout::{KEY_WORDS, RECORD_WORDS};
 use crate::mapping::Mapping;
 use crate::record::{zero_from, Record};
+use crate::registers::Registers;
 use std::fmt;
 
 /// A call: 1-13 are asked by the untrusted system while no thread runs, 32-42
 /// by the running thread's enclave.
 ///
 /// ```
-/// use monitor::{Call, Mapping};
+/// use types::{Call, Mapping};
 ///
 /// let call = Call::MapInsecure { space: 0, map: Mapping::from_word(4097), frame: 2 };
 /// let record = call.encode();

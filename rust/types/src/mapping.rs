@@ -19,7 +19,7 @@ const PAGE_ADDRESS: u32 = (MOST_TABLES << INDEX_SHIFT) - (1 << PAGE_SHIFT);
 /// Any word can be one; [`Mapping::is_well_formed`] says whether calls take it.
 ///
 /// ```
-/// use monitor::Mapping;
+/// use types::Mapping;
 ///
 /// let map = Mapping::new(0, 1).writable();
 /// assert_eq!(map.word(), 4099);

@@ -1,35 +1,16 @@
 use crate::call::Call;
-use crate::layout::{KEY_WORDS, REGISTERS, SAVED_WORDS};
+use crate::code::{DONE, FAULTED, INTERRUPTED};
+use crate::layout::{KEY_WORDS, REGISTERS};
 use crate::record::{part, record_of, Record};
 use crate::refusal::Refusal;
-use crate::words::DONE;
+use crate::registers::Registers;
 use std::fmt;
-
-/// r0-r15 and the flags.
-#[derive(Clone, Copy, Debug, Default, PartialEq, Eq, Hash)]
-pub struct Registers {
-    /// r0 to r15; a run starts at r15.
-    pub r: [u32; REGISTERS],
-    /// The flags, in the top 4 bits.
-    pub flags: u32,
-}
-
-impl Registers {
-    /// The registers of these words, the flags last.
-    pub(crate) fn of(words: [u32; SAVED_WORDS]) -> Registers {
-        Registers { r: std::array::from_fn(|place| words[place]), flags: words[REGISTERS] }
-    }
-
-    pub(crate) fn words(&self) -> [u32; SAVED_WORDS] {
-        std::array::from_fn(|place| *self.r.get(place).unwrap_or(&self.flags))
-    }
-}
 
 /// The answer of a call.
 ///
 /// ```
-/// use monitor::layout::RECORD_WORDS;
-/// use monitor::{Answer, Call, Refusal};
+/// use types::layout::RECORD_WORDS;
+/// use types::{Answer, Call, Refusal};
 ///
 /// let mut record = [0; RECORD_WORDS];
 /// record[0] = 22;
@@ -71,16 +52,13 @@ pub enum Answer {
 }
 
 impl Answer {
-    const INTERRUPTED: u32 = 32;
-    const FAULTED: u32 = 33;
-
     /// The answer that a record gives to a call; none where the record is not
     /// an answer to such a call.
     pub fn decode(call: &Call, record: &Record) -> Option<Answer> {
         let answer = match record[0] {
             DONE => Answer::done(call, record)?,
-            Answer::INTERRUPTED => Answer::Interrupted,
-            Answer::FAULTED => Answer::Faulted,
+            INTERRUPTED => Answer::Interrupted,
+            FAULTED => Answer::Faulted,
             code => Answer::Refused(Refusal::from_code(code)?),
         };
         (answer.encode() == *record).then_some(answer)
@@ -108,8 +86,8 @@ impl Answer {
     pub fn code(&self) -> u32 {
         match self {
             Answer::Refused(refusal) => refusal.code(),
-            Answer::Interrupted => Answer::INTERRUPTED,
-            Answer::Faulted => Answer::FAULTED,
+            Answer::Interrupted => INTERRUPTED,
+            Answer::Faulted => FAULTED,
             _ => DONE,
         }
     }

@@ -3,7 +3,7 @@ use crate::layout::{FRAME_WORDS, HEADER_WORDS, MOST_FRAMES, MOST_PAGES, RECORD_W
 /// The box's numbers F, s, n, m and k: which frames there are, and whose.
 ///
 /// ```
-/// use monitor::Machine;
+/// use types::Machine;
 ///
 /// let bench = Machine::BOX_A;
 /// assert!(bench.fits());

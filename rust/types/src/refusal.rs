@@ -3,7 +3,7 @@ use std::fmt;
 /// Why a call was refused. A refused call changes nothing.
 ///
 /// ```
-/// use monitor::Refusal;
+/// use types::Refusal;
 ///
 /// assert_eq!(Refusal::from_code(7), Some(Refusal::SlotTaken));
 /// assert_eq!(Refusal::SlotTaken.code(), 7);

@@ -5,8 +5,8 @@ use crate::machine::Machine;
 /// them, a `&mut [u32]` borrows them, a `&[u32]` only reads them.
 ///
 /// ```
-/// use monitor::layout::FRAME_WORDS;
-/// use monitor::{Machine, Memory};
+/// use types::layout::FRAME_WORDS;
+/// use types::{Machine, Memory};
 ///
 /// let mut memory = Memory::zeros(Machine::BOX_A);
 /// memory.frame_mut(5).unwrap()[3] = 9;

@@ -1,8 +1,8 @@
 //! What the words after the program's name ask for.
 
 use crate::{Complaint, KEY};
-use monitor::layout::{KEY_WORDS, MOST_FRAMES, MOST_PAGES};
-use monitor::{Key, Machine};
+use types::layout::{KEY_WORDS, MOST_FRAMES, MOST_PAGES};
+use types::{Key, Machine};
 
 /// What is asked for.
 #[derive(Debug, PartialEq, Eq)]

@@ -12,20 +12,15 @@ pub type Key = [u32; KEY_WORDS];
 /// [`crate::Memory`].
 ///
 /// ```
-/// use monitor::{Call, Machine, Monitor, Page};
+/// use types::layout::record_of;
+/// use types::{Ledger, Machine, Page};
 ///
-/// # fn main() -> Result<(), monitor::Unfit> {
-/// let mut bench = Monitor::boot(Machine::BOX_A, &[0; 8])?;
-/// bench.batch(&[
-///     Call::InitAddrSpace { space: 4, first: 2 },
-///     Call::AllocSpare { space: 4, page: 7 },
-/// ])?;
-/// let ledger = bench.ledger();
-/// assert_eq!(ledger.page(7), Some(Page::Spare { owner: 4 }));
+/// let mut ledger = Ledger::zeros(Machine::BOX_A);
+/// let spare = Page::Spare { owner: 4 };
+/// ledger.words_mut()[record_of(7)].copy_from_slice(&spare.encode());
+/// assert_eq!(ledger.page(7), Some(spare));
 /// assert_eq!(ledger.running(), None);
-/// assert!(ledger.is_free(0) && !ledger.is_free(7));
-/// # Ok(())
-/// # }
+/// assert_eq!(ledger.page_count(), 8);
 /// ```
 #[derive(Clone, Debug, PartialEq, Eq)]
 pub struct Ledger<W = Vec<u32>>(W);

@@ -1,7 +1,7 @@
-use crate::answer::Registers;
 use crate::layout::{kind, word, KEY_WORDS, SAVED_WORDS};
 use crate::mapping::Mapping;
 use crate::record::{part, record_of, Record};
+use crate::registers::Registers;
 
 /// How far an address space has come.
 #[derive(Clone, Copy, Debug, PartialEq, Eq, Hash)]
@@ -47,7 +47,7 @@ pub struct Thread {
 /// A secure page by its type.
 ///
 /// ```
-/// use monitor::{Mapping, Page};
+/// use types::{Mapping, Page};
 ///
 /// let page = Page::Data { owner: 0, map: Mapping::from_word(4099) };
 /// assert_eq!(page.encode()[..4], [5, 0, 4099, 0]);

@@ -2,9 +2,9 @@
 //! by a semicolon, with spaces and line feeds between.
 
 use crate::Complaint;
-use monitor::layout::RECORD_WORDS;
-use monitor::{Call, Record};
 use std::fmt;
+use types::layout::RECORD_WORDS;
+use types::{Call, Record};
 
 /// One call of a plan.
 #[derive(Clone, Debug, PartialEq, Eq)]

@@ -1,0 +1,34 @@
+//! The monitor's words in types: what a box lends, asks and is answered. This
+//! crate links nothing; `monitor` has the services over these words.
+//!
+//! - [`Machine`] is the box's numbers, [`Memory`] and [`Ledger`] what is lent,
+//!   [`Page`] a record of the ledger, [`Mapping`] a mapping word.
+//! - [`Call`] and [`Answer`] are the table of calls; [`Refusal`] the reasons.
+//! - [`layout`] has the sizes and places, [`code`] the numbers of answers that
+//!   are no refusals.
+
+mod answer;
+mod call;
+pub mod code;
+pub mod layout;
+mod ledger;
+mod machine;
+mod mapping;
+mod memory;
+mod page;
+mod record;
+mod refusal;
+mod registers;
+mod unfit;
+
+pub use answer::Answer;
+pub use call::Call;
+pub use ledger::{Key, Ledger};
+pub use machine::Machine;
+pub use mapping::Mapping;
+pub use memory::Memory;
+pub use page::{Page, Space, State, Thread};
+pub use record::Record;
+pub use refusal::Refusal;
+pub use registers::Registers;
+pub use unfit::Unfit;
