@@ -1,0 +1,135 @@
+/* A device at its worst: it changes every word outside the secure frames after each single access that a service makes there.
+   Those frames are closed to the program; an access traps, is let through for one instruction, and then the device writes. So it is seen
+   which calls reach those frames at all, and that what MapSecure measures is what it copied. On Linux and x86-64 alone: it steps by the
+   trap flag. Prints one line; what is wrong is named, and the exit status is then 1. */
+#define _GNU_SOURCE
+#include "monitor.h"
+
+#include <signal.h>
+#include <stdio.h>
+#include <string.h>
+#include <sys/mman.h>
+#include <ucontext.h>
+
+/* box A: frames 0-1 are the monitor's, 6-13 secure, the others insecure */
+enum {
+    FRAMES = 16, SECURE = 6, PAGES = 8, MONITORS = 2, ABOVE = SECURE + PAGES,
+    WORDS = MONITOR_FRAME_WORDS, BYTES = 4 * WORDS, MEMORY = FRAMES * WORDS,
+    RECORD = MONITOR_RECORD_WORDS, LEDGER = MONITOR_HEADER_WORDS + PAGES * RECORD,
+    HASH = 6, HASH_BYTES = 32, TRAP_FLAG = 0x100
+};
+/* page addresses 4096 and 8192, to be read and written; the frame that is copied, and one that is shared */
+enum { COPIED_AT = 4096, SHARED_AT = 8192, READ_WRITE = 3, COPIED = 5, SHARED = 15 };
+
+static uint32_t memory[MEMORY] __attribute__((aligned(BYTES)));
+static uint32_t ledger[LEDGER];
+static volatile int reached[FRAMES];
+static int wrong;
+
+static void expect(int holds, const char *what)
+{
+    if (!holds) {
+        printf("C: wrong: %s\n", what);
+        wrong = 1;
+    }
+}
+
+static void outside_may(int rights)
+{
+    if (mprotect(memory, SECURE * BYTES, rights) != 0 || mprotect(memory + ABOVE * WORDS, (FRAMES - ABOVE) * BYTES, rights) != 0)
+        wrong = 1;
+}
+
+static void let_through(int sig, siginfo_t *info, void *context)
+{
+    size_t frame = (size_t)((char *)info->si_addr - (char *)memory) / BYTES;
+    if (frame >= FRAMES) { /* another fault: it ends the program */
+        signal(sig, SIG_DFL);
+        return;
+    }
+    reached[frame]++;
+    outside_may(PROT_READ | PROT_WRITE);
+    ((ucontext_t *)context)->uc_mcontext.gregs[REG_EFL] |= TRAP_FLAG;
+}
+
+static void device_writes(int sig, siginfo_t *info, void *context)
+{
+    int word;
+    (void)sig, (void)info;
+    for (word = 0; word < MEMORY; word++)
+        if (word < SECURE * WORDS || word >= ABOVE * WORDS)
+            memory[word] = memory[word] * 2654435761u + (uint32_t)word;
+    outside_may(PROT_NONE);
+    ((ucontext_t *)context)->uc_mcontext.gregs[REG_EFL] &= ~(greg_t)TRAP_FLAG;
+}
+
+static void on(int sig, void (*handler)(int, siginfo_t *, void *))
+{
+    struct sigaction action;
+    memset(&action, 0, sizeof action);
+    action.sa_sigaction = handler;
+    action.sa_flags = SA_SIGINFO;
+    expect(sigaction(sig, &action, NULL) == 0, "a handler for the device");
+}
+
+/* A call with or without the device: how often its batch, acceptance included, reached a frame outside. */
+static int reaches(int device, const uint32_t call[RECORD])
+{
+    uint32_t answer[RECORD];
+    int frame, count = 0;
+    memset((void *)reached, 0, sizeof reached);
+    outside_may(device ? PROT_NONE : PROT_READ | PROT_WRITE);
+    expect(monitor_batch(FRAMES, SECURE, PAGES, 0, MONITORS, memory, MEMORY, ledger, LEDGER, call, RECORD, answer, RECORD) == 0, "a batch");
+    outside_may(PROT_READ | PROT_WRITE);
+    expect(answer[0] == MONITOR_DONE, "each call is done");
+    expect(monitor_accepts(FRAMES, SECURE, PAGES, 0, MONITORS, memory, MEMORY, ledger, LEDGER), "acceptance after each call");
+    for (frame = 0; frame < FRAMES; frame++)
+        count += reached[frame];
+    expect(reached[0] == 0 && reached[1] == 0, "nothing reaches the monitor's frames");
+    return count;
+}
+
+#define REACHES(device, ...) reaches(device, (const uint32_t[RECORD]){__VA_ARGS__})
+#define REACHES_NONE(...) expect(REACHES(1, __VA_ARGS__) == 0, "a call that has no business outside reaches nothing there")
+
+/* A space on page p, its tables on p+1 and p+2, frame 5 copied to page p+3; how often the copying reached outside. */
+static int built(int device, uint32_t p)
+{
+    REACHES_NONE(MONITOR_INIT_ADDR_SPACE, p, p + 1);
+    REACHES_NONE(MONITOR_INIT_TABLE, p, p + 2, 0);
+    return REACHES(device, MONITOR_MAP_SECURE, p, p + 3, COPIED_AT + READ_WRITE, COPIED);
+}
+
+static uint32_t *page(uint32_t p) { return memory + (SECURE + p) * WORDS; }
+static uint32_t *hash(uint32_t p) { return ledger + MONITOR_HEADER_WORDS + p * RECORD + HASH; }
+
+int main(void)
+{
+    static const uint32_t key[MONITOR_KEY_WORDS] = {1, 2, 3, 4, 5, 6, 7, 8};
+    int accesses;
+    on(SIGSEGV, let_through);
+    on(SIGTRAP, device_writes);
+    outside_may(PROT_NONE);
+    expect(monitor_boot(FRAMES, SECURE, PAGES, 0, MONITORS, key, MONITOR_KEY_WORDS, memory, MEMORY, ledger, LEDGER) == 0, "box A boots");
+
+    accesses = built(1, 0);
+    expect(accesses > 0 && accesses <= WORDS, "no word of the frame is read twice");
+    memcpy(memory + COPIED * WORDS, page(3), BYTES); /* the page as it came out, measured again with the device away */
+    built(0, 4);
+    expect(memcmp(page(3), page(7), BYTES) == 0 && memcmp(hash(0), hash(4), HASH_BYTES) == 0, "what was measured is what was copied");
+
+    REACHES_NONE(MONITOR_STOP, 4);
+    REACHES_NONE(MONITOR_REMOVE, 7);
+    REACHES_NONE(MONITOR_MAP_INSECURE, 0, SHARED_AT + READ_WRITE, SHARED);
+    REACHES_NONE(MONITOR_INIT_THREAD, 0, 7, COPIED_AT);
+    REACHES_NONE(MONITOR_FINALISE, 0);
+    REACHES_NONE(MONITOR_ENTER, 7);
+    REACHES_NONE(MONITOR_STORE, COPIED_AT, 77);
+    expect(REACHES(1, MONITOR_LOAD, SHARED_AT) == 1, "a load reads its word once");
+    expect(REACHES(1, MONITOR_STORE, SHARED_AT, 77) == 1, "a store writes its word once");
+    REACHES_NONE(MONITOR_ATTEST, 1);
+    REACHES_NONE(MONITOR_EXIT, 5);
+    if (!wrong)
+        printf("C: a device that writes after each of %d accesses changes no measurement and no ledger\n", accesses);
+    return wrong;
+}
