@@ -1,11 +1,12 @@
 //! The second program: the monitor's rules once more, in plain Rust over
-//! typed pages, written from the build description alone. It shares no line
-//! with the proved program, so that a slip in one is no slip in the other.
+//! typed pages, written from the rules' text alone (docs/RULES.md holds them).
+//! It shares no line with the proved program, so that a slip in one is no slip
+//! in the other.
 //!
-//! Three services over the lent words, as the build description names them:
-//! [`boot`], [`accepts`] and [`batch`].
+//! Three services over the lent words, as the rules name them: [`boot`],
+//! [`accepts`] and [`batch`]; and [`why`], which says why acceptance says no.
 //!
-//! Readings chosen where the description is open:
+//! Readings chosen where the text was open:
 //!
 //! - Refusal 4 of calls 6, 7 and 8 means "not building", as in calls 3 and 4;
 //!   only call 5 says "stopped 4".
@@ -34,10 +35,12 @@ pub mod sha;
 pub mod shift;
 pub mod vectors;
 
+mod demand;
 mod enclave;
 mod host;
 mod monitor;
 mod service;
 
+pub use accept::{Broken, Place, Rule};
 pub use machine::Machine;
-pub use service::{accepts, batch, boot, DONE, UNFIT};
+pub use service::{accepts, batch, boot, why, DONE, UNFIT};

@@ -1,8 +1,9 @@
 //! The machine numbers: which frames there are and whose they are.
 
+use crate::demand::demand;
 use crate::layout::{FRAME_WORDS, HEADER_WORDS, MOST_FRAMES, MOST_PAGES, RECORD_WORDS};
 
-/// The numbers F, s, n, m and k of the build description.
+/// The numbers F, s, n, m and k of the rules.
 #[derive(Clone, Copy, Debug, PartialEq, Eq)]
 pub struct Machine {
     /// F: all frames.
@@ -26,15 +27,33 @@ fn range(first: u32, count: u32) -> std::ops::Range<u64> {
 impl Machine {
     /// Whether the numbers keep the rules of the box.
     pub fn fits(&self) -> bool {
-        let secure = range(self.secure, self.pages);
-        let monitor = range(self.monitor, self.monitors);
-        let all = u64::from(self.frames);
-        (1..=MOST_FRAMES).contains(&self.frames)
-            && (1..=MOST_PAGES).contains(&self.pages)
-            && self.monitors >= 1
-            && secure.end <= all
-            && monitor.end <= all
-            && (secure.end <= monitor.start || monitor.end <= secure.start)
+        self.fitting().is_ok()
+    }
+
+    /// The first rule of the box that the numbers break, in words.
+    pub fn fitting(&self) -> Result<(), String> {
+        let Machine { frames, pages, monitors, .. } = *self;
+        let from_1 = |number: &str, found: u32, most: u32| {
+            demand((1..=most).contains(&found), || {
+                format!("expected {number} from 1 to {most}, found {found}")
+            })
+        };
+        from_1("F", frames, MOST_FRAMES)?;
+        from_1("n", pages, MOST_PAGES)?;
+        demand(monitors >= 1, || format!("expected k of at least 1, found {monitors}"))?;
+        let secure = range(self.secure, pages);
+        let monitor = range(self.monitor, monitors);
+        let within = |sum: &str, end: u64| {
+            demand(end <= u64::from(frames), || {
+                format!("expected {sum} of at most F, {frames}, found {end}")
+            })
+        };
+        within("s+n", secure.end)?;
+        within("m+k", monitor.end)?;
+        let shared = secure.start.max(monitor.start);
+        demand(secure.end <= monitor.start || monitor.end <= secure.start, || {
+            format!("expected secure and monitor frames apart, found frame {shared} in both")
+        })
     }
 
     /// Neither secure nor the monitor's own, and below F.

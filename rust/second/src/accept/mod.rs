@@ -1,0 +1,77 @@
+//! Acceptance: a plain reading of "What acceptance demands" in docs/RULES.md,
+//! demand by demand, a file for each part.
+//!
+//! The demands A1 to A19 are asked in the order of their numbers, each at the
+//! lowest page first and there at the lowest word. So what is [`Broken`] is
+//! the first demand that fails, and a demand may lean on those before it:
+//! from A9 on the pages are typed.
+
+mod broken;
+mod header;
+mod links;
+mod pages;
+mod records;
+
+pub use broken::{Broken, Place, Rule};
+
+use crate::demand::demand;
+use crate::layout::record_of;
+use crate::ledger::Ledger;
+use crate::machine::Machine;
+use pages::Pages;
+
+/// Nothing, or the first demand that is broken.
+type Verdict = Result<(), Broken>;
+
+/// The typed ledger, if the lent words are accepted.
+pub fn accepted(m: Machine, memory: &[u32], ledger: &[u32]) -> Result<Ledger, Broken> {
+    fitting(m, memory, ledger)?;
+    let lent = Lent { machine: m, memory, ledger };
+    lent.header()?;
+    lent.records()?;
+    let ledger = Ledger::decode(ledger).expect("A5 and A6 hold");
+    let pages = Pages { lent, ledger: &ledger };
+    pages.single()?;
+    pages.links()?;
+    Ok(ledger)
+}
+
+/// A1: the machine numbers fit; memory and ledger have their lengths.
+pub fn fitting(m: Machine, memory: &[u32], ledger: &[u32]) -> Result<(), Broken> {
+    let lengths = || {
+        let (asked, found) = (m.memory_words(), memory.len());
+        demand(asked == found, || {
+            format!("expected 1024F words of memory, {asked}, found {found}")
+        })?;
+        let (asked, found) = (m.ledger_words(), ledger.len());
+        demand(asked == found, || {
+            format!("expected 32+32n words of ledger, {asked}, found {found}")
+        })
+    };
+    m.fitting().and_then(|()| lengths()).map_err(Broken::lent)
+}
+
+/// The lent words, of which A1 holds.
+#[derive(Clone, Copy)]
+struct Lent<'a> {
+    machine: Machine,
+    memory: &'a [u32],
+    ledger: &'a [u32],
+}
+
+impl<'a> Lent<'a> {
+    /// All pages, in order.
+    fn pages(&self) -> std::ops::Range<usize> {
+        0..self.machine.page_count()
+    }
+
+    /// The record of a page.
+    fn record(&self, page: usize) -> &'a [u32] {
+        &self.ledger[record_of(page)]
+    }
+
+    /// The words of a page's frame.
+    fn frame(&self, page: usize) -> &'a [u32] {
+        &self.memory[self.machine.words_of(page)]
+    }
+}
