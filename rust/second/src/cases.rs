@@ -14,7 +14,7 @@ pub const BOX_A: Machine = Machine { frames: 16, secure: 6, pages: 8, monitor: 0
 /// The key words of the printed shift.
 pub const KEY: [u32; 8] = [1, 2, 3, 4, 5, 6, 7, 8];
 
-/// The rows: first the shift on box A in the order of the description, then
+/// The rows: first the shift on box A in the order of the rules, then
 /// further cases that go on from its end.
 #[rustfmt::skip]
 pub const CASES: &[&[u32]] = &[

@@ -1,4 +1,4 @@
-//! "A shift on box A", row by row, with every word the description names.
+//! "A shift on box A", row by row, with every word the rules name.
 
 use second::cases::BOX_A;
 use second::layout::{record_of, Record, FRAME_WORDS, KEY_START, MAP_START, RECORD_WORDS};
