@@ -23,18 +23,6 @@ fn any_call(rng: &mut Rng) -> Record {
 }
 
 #[test]
-fn numbers_and_names_are_those_of_the_table() {
-    assert_eq!(Call::NUMBERS, CALLS.map(|call| call.number));
-    for row in &CALLS {
-        let mut words = [0; RECORD_WORDS];
-        words[0] = row.number;
-        let call = Call::decode(&words).expect(row.name);
-        assert_eq!((call.number(), call.name()), (row.number, row.name));
-        assert_eq!(call.to_string().split(' ').count(), 1 + row.arguments);
-    }
-}
-
-#[test]
 fn a_call_is_read_exactly_where_its_record_is_good() {
     let mut rng = Rng::new(1);
     for _ in 0..20_000 {

@@ -22,7 +22,7 @@ mod registers;
 mod unfit;
 
 pub use answer::Answer;
-pub use call::Call;
+pub use call::{Call, Row};
 pub use ledger::{Key, Ledger};
 pub use machine::Machine;
 pub use mapping::Mapping;

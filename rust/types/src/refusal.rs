@@ -79,6 +79,10 @@ impl Refusal {
         Refusal::AlreadyFree,
     ];
 
+    /// The two that every record is asked first, in this order, before its
+    /// call's own.
+    pub const FIRST: [Refusal; 2] = [Refusal::BadRecord, Refusal::WrongTime];
+
     /// The number in word 0 of the answer record.
     pub const fn code(self) -> u32 {
         self as u32

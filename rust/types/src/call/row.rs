@@ -1,0 +1,37 @@
+use crate::refusal::Refusal;
+
+/// One row of the table of calls, which is `Call::ROWS`.
+///
+/// ```
+/// use types::{Refusal, Row};
+///
+/// let row = Row::of(35).unwrap();
+/// assert_eq!((row.name, row.short), ("InitL2PTable", "SpareTable"));
+/// assert_eq!(row.arguments, [("page", 1), ("index", 1)]);
+/// assert_eq!(row.words(), 2);
+/// assert_eq!(row.refusals.last(), Some(&Refusal::SlotTaken));
+/// assert_eq!(Row::of(14), None);
+/// ```
+#[derive(Clone, Copy, Debug, PartialEq, Eq)]
+pub struct Row {
+    /// The number in word 0 of the call's record.
+    pub number: u32,
+    /// The name in the build description, which 4 and 35 share.
+    pub name: &'static str,
+    /// The name in `Call`, each call's own.
+    pub short: &'static str,
+    /// Its arguments in order: the name, and how many words it has.
+    pub arguments: &'static [(&'static str, usize)],
+    /// Its own refusals in the order in which they are asked; one that is asked
+    /// of two pages stands twice. [`Refusal::FIRST`] are asked before them.
+    pub refusals: &'static [Refusal],
+    /// The codes that it answers where it is not refused, of [`crate::code`].
+    pub outcomes: &'static [u32],
+}
+
+impl Row {
+    /// How many words all arguments have together.
+    pub fn words(&self) -> usize {
+        self.arguments.iter().map(|(_, words)| words).sum()
+    }
+}
