@@ -13,7 +13,7 @@
 //! bench.memory_mut().frame_mut(5).unwrap()[0] = 77;
 //!
 //! // An address space on pages 0 and 1, a table on 2, frame 5 copied to page 3.
-//! let map = Mapping::new(0, 1).writable();
+//! let map = Mapping::at(4096).unwrap().writable();
 //! let build = [
 //!     Call::InitAddrSpace { space: 0, first: 0 },
 //!     Call::InitAddrSpace { space: 0, first: 1 },

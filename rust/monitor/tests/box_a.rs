@@ -41,7 +41,7 @@ fn started(x: u32, y: u32, z: u32) -> [u32; 16] {
 #[test]
 fn the_shift() {
     let mut a = Shift::fresh();
-    let map = Mapping::new(0, 1).writable();
+    let map = Mapping::at(4096).expect("a page").writable();
 
     a.refused(Call::InitAddrSpace { space: 0, first: 0 }, NotFree);
     a.refused(Call::InitAddrSpace { space: 8, first: 8 }, NoSuchPage);
@@ -53,7 +53,7 @@ fn the_shift() {
     a.done(Call::InitTable { space: 0, page: 2, index: 0 });
     a.refused(Call::InitTable { space: 0, page: 3, index: 0 }, SlotTaken);
 
-    let elsewhere = Mapping::new(1, 0).writable();
+    let elsewhere = Mapping::new(1, 0).expect("in range").writable();
     a.refused(Call::MapSecure { space: 0, page: 3, map: elsewhere, frame: 2 }, NoTable);
     for frame in [6, 1, 16] {
         a.refused(Call::MapSecure { space: 0, page: 3, map, frame }, NotInsecure);

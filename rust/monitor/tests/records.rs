@@ -1,6 +1,6 @@
 //! Calls, answers and pages to words and back, both ways round.
 
-use monitor::layout::{MOST_FRAMES, MOST_PAGES, RECORD_WORDS};
+use monitor::layout::{FRAME_WORDS, MOST_FRAMES, MOST_PAGES, MOST_TABLES, RECORD_WORDS};
 use monitor::{words, Answer, Call, Machine, Mapping, Page, Record, Refusal, Registers};
 use second::calls::{by_number, CALLS};
 use second::random::{next_call, Rng, View};
@@ -137,11 +137,31 @@ fn mappings_answer_for_themselves() {
         assert_eq!((ours.index(), ours.slot()), (second.index() as u32, second.slot() as u32));
         assert_eq!((ours.address(), ours.executes()), (second.address(), second.executes()));
         if ours.is_well_formed() {
-            let mut again = Mapping::new(ours.index(), ours.slot());
+            let mut again = Mapping::new(ours.index(), ours.slot()).expect("in range");
+            assert_eq!(Mapping::at(ours.address()), Some(again));
             again = if ours.writes() { again.writable() } else { again };
             again = if ours.executes() { again.executable() } else { again };
             assert_eq!(again, ours);
         }
+    }
+}
+
+/// What is out of range is refused, and not cut down to what is in range.
+#[test]
+fn mappings_out_of_range_are_none() {
+    let (most_tables, slots) = (MOST_TABLES, FRAME_WORDS as u32);
+    for index in [0, 1, most_tables - 1, most_tables, most_tables + 1, u32::MAX] {
+        for slot in [0, 1, slots - 1, slots, slots + 1, u32::MAX] {
+            let map = Mapping::new(index, slot);
+            assert_eq!(map.is_some(), index < most_tables && slot < slots, "{index} {slot}");
+            assert!(map.iter().all(|map| (map.index(), map.slot()) == (index, slot)));
+        }
+    }
+    for address in [0, 4096, (1 << 30) - 4096] {
+        assert_eq!(Mapping::at(address).map(Mapping::address), Some(address));
+    }
+    for address in [1, 2, 4, 4095, 4097, (1 << 30) - 1, 1 << 30, 1 << 31, u32::MAX] {
+        assert_eq!(Mapping::at(address), None, "{address}");
     }
 }
 

@@ -21,8 +21,11 @@ const PAGE_ADDRESS: u32 = (MOST_TABLES << INDEX_SHIFT) - (1 << PAGE_SHIFT);
 /// ```
 /// use types::Mapping;
 ///
-/// let map = Mapping::new(0, 1).writable();
+/// let map = Mapping::new(0, 1).unwrap().writable();
 /// assert_eq!(map.word(), 4099);
+/// assert_eq!(Mapping::at(4096).map(Mapping::writable), Some(map));
+/// assert_eq!((Mapping::new(256, 0), Mapping::new(0, 1024)), (None, None));
+/// assert_eq!((Mapping::at(4100), Mapping::at(1 << 30)), (None, None));
 /// assert_eq!((map.index(), map.slot(), map.address()), (0, 1, 4096));
 /// assert!(map.is_well_formed() && !Mapping::from_word(4098).is_well_formed());
 /// assert_eq!(map.to_string(), "4096 rw-");
@@ -32,9 +35,23 @@ pub struct Mapping(u32);
 
 impl Mapping {
     /// The page at a first-level index and a slot of its table, to be read
-    /// only. Higher bits of either are left out.
-    pub const fn new(index: u32, slot: u32) -> Mapping {
-        Mapping(((index % MOST_TABLES) << INDEX_SHIFT) | ((slot % SLOTS) << PAGE_SHIFT) | READ)
+    /// only; none where there is no such index or slot.
+    pub const fn new(index: u32, slot: u32) -> Option<Mapping> {
+        if index < MOST_TABLES && slot < SLOTS {
+            Some(Mapping((index << INDEX_SHIFT) | (slot << PAGE_SHIFT) | READ))
+        } else {
+            None
+        }
+    }
+
+    /// The page at an address in bytes, to be read only; none where no page
+    /// starts there, or none can be mapped.
+    pub const fn at(address: u32) -> Option<Mapping> {
+        if address & !PAGE_ADDRESS == 0 {
+            Some(Mapping(address | READ))
+        } else {
+            None
+        }
     }
 
     /// Any word as a mapping word.
