@@ -1,7 +1,7 @@
 //! What the words after the program's name ask for.
 
 use crate::{Complaint, KEY};
-use types::layout::{KEY_WORDS, MOST_FRAMES, MOST_PAGES};
+use types::layout::KEY_WORDS;
 use types::{Key, Machine};
 
 /// What is asked for.
@@ -77,23 +77,8 @@ fn machine_of(word: Option<&String>) -> Result<Machine, Complaint> {
     let [frames, secure, pages, monitor, monitors] =
         numbers("--machine", "F,s,n,m,k, five numbers with commas between", word)?;
     let machine = Machine { frames, secure, pages, monitor, monitors };
-    match why_unfit(machine) {
+    match machine.broken_rule() {
         None => Ok(machine),
         Some(rule) => Err(format!("--machine: expected {rule}")),
     }
-}
-
-/// The first rule of a box that these numbers break.
-fn why_unfit(machine: Machine) -> Option<String> {
-    let Machine { frames, secure, pages, monitor, monitors } = machine;
-    let within = |first: u32, count: u32| first <= frames && count <= frames - first;
-    let rules = [
-        ((1..=MOST_FRAMES).contains(&frames), format!("F from 1 to {MOST_FRAMES}")),
-        ((1..=MOST_PAGES).contains(&pages), format!("n from 1 to {MOST_PAGES}")),
-        (monitors >= 1, "k of at least 1".into()),
-        (within(secure, pages), "secure frames s to s+n-1 below F".into()),
-        (within(monitor, monitors), "monitor frames m to m+k-1 below F".into()),
-        (machine.fits(), "secure and monitor frames that share none".into()),
-    ];
-    rules.into_iter().find(|(kept, _)| !kept).map(|(_, rule)| rule)
 }

@@ -19,6 +19,7 @@ mod page;
 mod record;
 mod refusal;
 mod registers;
+mod rule;
 mod unfit;
 
 pub use answer::Answer;
@@ -31,4 +32,5 @@ pub use page::{Page, Space, State, Thread};
 pub use record::Record;
 pub use refusal::Refusal;
 pub use registers::Registers;
+pub use rule::Rule;
 pub use unfit::Unfit;

@@ -1,16 +1,20 @@
 use crate::layout::{FRAME_WORDS, HEADER_WORDS, MOST_FRAMES, MOST_PAGES, RECORD_WORDS};
+use crate::rule::Rule;
 
 /// The box's numbers F, s, n, m and k: which frames there are, and whose.
 ///
 /// ```
-/// use types::Machine;
+/// use types::{Machine, Rule};
 ///
 /// let bench = Machine::BOX_A;
 /// assert!(bench.fits());
 /// assert!(bench.is_insecure(5) && !bench.is_insecure(6) && !bench.is_insecure(1));
 /// assert_eq!(bench.page_in(6), Some(0));
 /// // Numbers that do not fit can be said; the services then answer 18.
-/// assert!(!Machine { frames: 13, ..bench }.fits());
+/// let small = Machine { frames: 13, ..bench };
+/// assert!(!small.fits());
+/// assert_eq!(small.broken_rule(), Some(Rule::SecureBelow));
+/// assert_eq!(Rule::SecureBelow.to_string(), "secure frames s to s+n-1 below F");
 /// ```
 #[derive(Clone, Copy, Debug, PartialEq, Eq, Hash)]
 pub struct Machine {
@@ -44,14 +48,23 @@ impl Machine {
 
     /// Whether these numbers keep the rules of a box.
     pub fn fits(&self) -> bool {
+        self.broken_rule().is_none()
+    }
+
+    /// The first rule of a box that these numbers break.
+    pub fn broken_rule(&self) -> Option<Rule> {
         let (secure, monitor) = (end(self.secure, self.pages), end(self.monitor, self.monitors));
         let below = |end: u64| end <= u64::from(self.frames);
-        (1..=MOST_FRAMES).contains(&self.frames)
-            && (1..=MOST_PAGES).contains(&self.pages)
-            && self.monitors >= 1
-            && below(secure)
-            && below(monitor)
-            && (secure <= u64::from(self.monitor) || monitor <= u64::from(self.secure))
+        let apart = secure <= u64::from(self.monitor) || monitor <= u64::from(self.secure);
+        let kept = [
+            (Rule::Frames, (1..=MOST_FRAMES).contains(&self.frames)),
+            (Rule::Pages, (1..=MOST_PAGES).contains(&self.pages)),
+            (Rule::Monitors, self.monitors >= 1),
+            (Rule::SecureBelow, below(secure)),
+            (Rule::MonitorBelow, below(monitor)),
+            (Rule::Apart, apart),
+        ];
+        kept.into_iter().find(|(_, kept)| !kept).map(|(rule, _)| rule)
     }
 
     /// Whether a frame is below F and neither secure nor the monitor's.
@@ -68,12 +81,12 @@ impl Machine {
 
     /// The words of memory that this machine lends.
     pub fn memory_words(&self) -> usize {
-        self.frames as usize * FRAME_WORDS
+        (self.frames as usize).saturating_mul(FRAME_WORDS)
     }
 
     /// The words of ledger that this machine lends: the header, and a record a
     /// page.
     pub fn ledger_words(&self) -> usize {
-        HEADER_WORDS + self.pages as usize * RECORD_WORDS
+        (self.pages as usize).saturating_mul(RECORD_WORDS).saturating_add(HEADER_WORDS)
     }
 }
