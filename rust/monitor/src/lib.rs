@@ -6,10 +6,11 @@
 //! code behind them is proved; this crate gives its words names and types.
 //!
 //! ```
-//! use monitor::{Answer, Call, Machine, Mapping, Monitor, Refusal};
+//! use monitor::{Answer, Call, Key, Machine, Mapping, Monitor, Refusal};
 //!
 //! # fn main() -> Result<(), monitor::Unfit> {
-//! let mut bench = Monitor::boot(Machine::BOX_A, &[1, 2, 3, 4, 5, 6, 7, 8])?;
+//! let key = Key::new([1, 2, 3, 4, 5, 6, 7, 8]);
+//! let mut bench = Monitor::boot(Machine::BOX_A, &key)?;
 //! bench.memory_mut().frame_mut(5).unwrap()[0] = 77;
 //!
 //! // An address space on pages 0 and 1, a table on 2, frame 5 copied to page 3.

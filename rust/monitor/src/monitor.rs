@@ -1,19 +1,21 @@
 use crate::words;
+use std::fmt;
 use types::code::DONE;
 use types::layout::RECORD_WORDS;
 use types::{Answer, Call, Key, Ledger, Machine, Memory, Record, Unfit};
 
-/// The monitor over a machine's lent words, which it owns or borrows.
+/// The monitor over a machine's lent words, which it owns or borrows. Printed
+/// for debugging it shows no word of the key, nor of the memory.
 ///
 /// ```
 /// use monitor::layout::HEADER_WORDS;
-/// use monitor::{Call, Ledger, Machine, Memory, Monitor, Unfit};
+/// use monitor::{Call, Key, Ledger, Machine, Memory, Monitor, Unfit};
 ///
 /// // Over words that are somebody else's:
 /// let machine = Machine::BOX_A;
 /// let (mut memory, mut ledger) = (vec![5; machine.memory_words()], vec![5; machine.ledger_words()]);
 /// let (mem, led) = (Memory::over(&mut memory[..]), Ledger::over(&mut ledger[..]));
-/// let mut bench = Monitor::boot_over(machine, mem, led, &[1; 8])?;
+/// let mut bench = Monitor::boot_over(machine, mem, led, &Key::new([1; 8]))?;
 /// bench.call(Call::InitAddrSpace { space: 0, first: 1 })?;
 ///
 /// // The words may be taken up again, if they are accepted:
@@ -24,7 +26,7 @@ use types::{Answer, Call, Key, Ledger, Machine, Memory, Record, Unfit};
 /// assert_eq!(again.call(Call::FreePages), Err(Unfit));
 /// # Ok::<(), Unfit>(())
 /// ```
-#[derive(Clone, Debug, PartialEq, Eq)]
+#[derive(Clone, PartialEq, Eq)]
 pub struct Monitor<M = Vec<u32>, L = Vec<u32>> {
     machine: Machine,
     memory: Memory<M>,
@@ -51,7 +53,7 @@ impl<M: AsMut<[u32]>, L: AsMut<[u32]>> Monitor<M, L> {
         mut ledger: Ledger<L>,
         key: &Key,
     ) -> Result<Monitor<M, L>, Unfit> {
-        match words::boot(machine, key, memory.words_mut(), ledger.words_mut()) {
+        match words::boot(machine, key.words(), memory.words_mut(), ledger.words_mut()) {
             DONE => Ok(Monitor { machine, memory, ledger }),
             _ => Err(Unfit),
         }
@@ -134,6 +136,16 @@ impl<M, L> Monitor<M, L> {
     /// The words back.
     pub fn into_parts(self) -> (Memory<M>, Ledger<L>) {
         (self.memory, self.ledger)
+    }
+}
+
+impl<M: AsRef<[u32]>, L: AsRef<[u32]>> fmt::Debug for Monitor<M, L> {
+    fn fmt(&self, out: &mut fmt::Formatter) -> fmt::Result {
+        out.debug_struct("Monitor")
+            .field("machine", &self.machine)
+            .field("memory", &self.memory)
+            .field("ledger", &self.ledger)
+            .finish()
     }
 }
 

@@ -4,7 +4,7 @@ use monitor::layout::{MAP_START, MOST_CALLS, MOST_FRAMES, RECORD_WORDS};
 use monitor::Refusal::{self, *};
 use monitor::{Answer, Call, Key, Machine, Mapping, Monitor, Page, Registers, Unfit};
 
-const KEY: Key = [11, 12, 13, 14, 15, 16, 17, 18];
+const KEY: Key = Key::new([11, 12, 13, 14, 15, 16, 17, 18]);
 
 struct Shift(Monitor);
 

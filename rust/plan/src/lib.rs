@@ -10,4 +10,4 @@ use types::Key;
 pub type Complaint = String;
 
 /// The key where none is given.
-pub const KEY: Key = [1, 2, 3, 4, 5, 6, 7, 8];
+pub const KEY: Key = Key::new([1, 2, 3, 4, 5, 6, 7, 8]);

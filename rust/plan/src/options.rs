@@ -70,7 +70,7 @@ fn numbers<const N: usize>(
 }
 
 fn key_of(word: Option<&String>) -> Result<Key, Complaint> {
-    numbers("--key", &format!("{KEY_WORDS} numbers with commas between"), word)
+    numbers("--key", &format!("{KEY_WORDS} numbers with commas between"), word).map(Key::new)
 }
 
 fn machine_of(word: Option<&String>) -> Result<Machine, Complaint> {

@@ -75,6 +75,6 @@ pub mod word {
 
 /// Where the record of this page stands in the ledger.
 pub const fn record_of(page: u32) -> std::ops::Range<usize> {
-    let start = HEADER_WORDS + RECORD_WORDS * page as usize;
-    start..start + RECORD_WORDS
+    let start = RECORD_WORDS.saturating_mul(page as usize).saturating_add(HEADER_WORDS);
+    start..start.saturating_add(RECORD_WORDS)
 }

@@ -1,15 +1,17 @@
+use crate::key::Key;
 use crate::layout::{
-    record_of, HEADER_WORDS, KEY_START, KEY_WORDS, MAP_START, MAP_WORDS, RECORD_WORDS, RUNNING,
+    record_of, word, HEADER_WORDS, KEY_START, MAP_START, MAP_WORDS, RECORD_WORDS, RUNNING,
 };
 use crate::machine::Machine;
 use crate::page::Page;
 use crate::record::Record;
-
-/// The key for attestations.
-pub type Key = [u32; KEY_WORDS];
+use std::fmt;
 
 /// The ledger: a header and a record a page. `W` holds the words, as in
 /// [`crate::Memory`].
+///
+/// The header holds the key, and a suspended thread's record its registers.
+/// Printed for debugging it shows neither, but counts the pages by type.
 ///
 /// ```
 /// use types::layout::record_of;
@@ -21,8 +23,10 @@ pub type Key = [u32; KEY_WORDS];
 /// assert_eq!(ledger.page(7), Some(spare));
 /// assert_eq!(ledger.running(), None);
 /// assert_eq!(ledger.page_count(), 8);
+/// let shown = "pages: 8, running: None, key: Key(not shown), types: {\"free\": 7, \"spare\": 1}";
+/// assert_eq!(format!("{ledger:?}"), format!("Ledger {{ {shown} }}"));
 /// ```
-#[derive(Clone, Debug, PartialEq, Eq)]
+#[derive(Clone, PartialEq, Eq)]
 pub struct Ledger<W = Vec<u32>>(W);
 
 impl Ledger {
@@ -68,7 +72,7 @@ impl<W: AsRef<[u32]>> Ledger<W> {
 
     /// The key for attestations.
     pub fn key(&self) -> Key {
-        std::array::from_fn(|place| self.header(KEY_START + place))
+        Key::new(std::array::from_fn(|place| self.header(KEY_START + place)))
     }
 
     /// Whether the free map says that this page is free.
@@ -95,5 +99,35 @@ impl<W: AsRef<[u32]>> Ledger<W> {
     /// All pages in order, as far as their records are in order.
     pub fn pages(&self) -> impl Iterator<Item = Option<Page>> + '_ {
         (0..self.page_count()).map(|page| self.page(page))
+    }
+}
+
+impl<W: AsRef<[u32]>> fmt::Debug for Ledger<W> {
+    fn fmt(&self, out: &mut fmt::Formatter) -> fmt::Result {
+        out.debug_struct("Ledger")
+            .field("pages", &self.page_count())
+            .field("running", &self.running())
+            .field("key", &self.key())
+            .field("types", &Types(self))
+            .finish()
+    }
+}
+
+/// The types by their numbers, and what is none.
+const TYPES: [&str; 8] =
+    ["free", "space", "thread", "first table", "table", "data", "spare", "out of order"];
+
+/// How many pages there are of each type that there is.
+struct Types<'a, W>(&'a Ledger<W>);
+
+impl<W: AsRef<[u32]>> fmt::Debug for Types<'_, W> {
+    fn fmt(&self, out: &mut fmt::Formatter) -> fmt::Result {
+        let mut counts = [0; TYPES.len()];
+        for page in self.0.pages() {
+            let kind = page.map(|page| page.encode()[word::TYPE] as usize);
+            counts[kind.unwrap_or(TYPES.len() - 1)] += 1;
+        }
+        let there = TYPES.iter().zip(counts).filter(|(_, count)| *count > 0);
+        out.debug_map().entries(there).finish()
     }
 }

@@ -10,6 +10,7 @@
 mod answer;
 mod call;
 pub mod code;
+mod key;
 pub mod layout;
 mod ledger;
 mod machine;
@@ -24,7 +25,8 @@ mod unfit;
 
 pub use answer::Answer;
 pub use call::{Call, Row};
-pub use ledger::{Key, Ledger};
+pub use key::Key;
+pub use ledger::Ledger;
 pub use machine::Machine;
 pub use mapping::Mapping;
 pub use memory::Memory;

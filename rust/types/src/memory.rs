@@ -1,8 +1,12 @@
 use crate::layout::FRAME_WORDS;
 use crate::machine::Machine;
+use std::fmt;
 
 /// The memory: [`FRAME_WORDS`] a frame. `W` holds the words: a `Vec<u32>` owns
 /// them, a `&mut [u32]` borrows them, a `&[u32]` only reads them.
+///
+/// Secure frames hold what enclaves keep to themselves. Printed for debugging
+/// it shows how many words it has, and none of them.
 ///
 /// ```
 /// use types::layout::FRAME_WORDS;
@@ -12,11 +16,12 @@ use crate::machine::Machine;
 /// memory.frame_mut(5).unwrap()[3] = 9;
 /// assert_eq!(memory.frame(5).unwrap()[..4], [0, 0, 0, 9]);
 /// assert_eq!(memory.frame(16), None);
+/// assert_eq!(format!("{memory:?}"), "Memory { words: 16384 }");
 ///
 /// let mut mine = [0; 2 * FRAME_WORDS];
 /// assert_eq!(Memory::over(&mut mine[..]).frame_mut(1).unwrap().len(), FRAME_WORDS);
 /// ```
-#[derive(Clone, Debug, PartialEq, Eq)]
+#[derive(Clone, PartialEq, Eq)]
 pub struct Memory<W = Vec<u32>>(W);
 
 impl Memory {
@@ -27,8 +32,8 @@ impl Memory {
 }
 
 fn range_of(frame: u32) -> std::ops::Range<usize> {
-    let start = frame as usize * FRAME_WORDS;
-    start..start + FRAME_WORDS
+    let start = (frame as usize).saturating_mul(FRAME_WORDS);
+    start..start.saturating_add(FRAME_WORDS)
 }
 
 impl<W> Memory<W> {
@@ -64,5 +69,11 @@ impl<W: AsMut<[u32]>> Memory<W> {
     /// The words of a frame, to be written.
     pub fn frame_mut(&mut self, frame: u32) -> Option<&mut [u32]> {
         self.words_mut().get_mut(range_of(frame))
+    }
+}
+
+impl<W: AsRef<[u32]>> fmt::Debug for Memory<W> {
+    fn fmt(&self, out: &mut fmt::Formatter) -> fmt::Result {
+        out.debug_struct("Memory").field("words", &self.words().len()).finish()
     }
 }
