@@ -46,8 +46,34 @@
 //! - [`Memory`], [`Ledger`] and [`Page`] read the lent words.
 //! - [`words`] is the three services as they are exported, words and numbers;
 //!   [`layout`] has the sizes and places.
+//!
+//! It needs no `std`. The feature `alloc`, which is on unless it is turned off,
+//! adds the forms that own their words: `Monitor::boot`, `Monitor::batch`,
+//! `Memory::zeros` and `Ledger::zeros`. Without it a box lends what it has:
+//!
+//! ```
+//! use monitor::layout::{FRAME_WORDS, HEADER_WORDS, RECORD_WORDS};
+//! use monitor::{Answer, Call, Key, Ledger, Machine, Memory, Monitor};
+//!
+//! # fn main() -> Result<(), monitor::Unfit> {
+//! let mut memory = [0; 16 * FRAME_WORDS];
+//! let mut ledger = [0; HEADER_WORDS + 8 * RECORD_WORDS];
+//! let (memory, ledger) = (Memory::over(&mut memory[..]), Ledger::over(&mut ledger[..]));
+//! let mut bench = Monitor::boot_over(Machine::BOX_A, memory, ledger, &Key::new([9; 8]))?;
+//! let answers = bench.batch_of([Call::InitAddrSpace { space: 0, first: 1 }, Call::FreePages])?;
+//! assert_eq!(answers, [Answer::Done, Answer::Free { count: 6, lowest: 2 }]);
+//! # Ok(())
+//! # }
+//! ```
+
+#![no_std]
+
+#[cfg(feature = "alloc")]
+extern crate alloc;
 
 mod monitor;
+#[cfg(feature = "alloc")]
+mod owned;
 pub mod words;
 
 pub use monitor::Monitor;

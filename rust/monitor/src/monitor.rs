@@ -1,5 +1,5 @@
 use crate::words;
-use std::fmt;
+use core::{array, fmt};
 use types::code::DONE;
 use types::layout::RECORD_WORDS;
 use types::{Answer, Call, Key, Ledger, Machine, Memory, Record, Unfit};
@@ -23,25 +23,19 @@ use types::{Answer, Call, Key, Ledger, Machine, Memory, Record, Unfit};
 /// let mut again = Monitor::resume(machine, mem, led)?;
 /// again.ledger_mut().words_mut()[HEADER_WORDS - 1] = 1;
 /// assert!(!again.accepted());
-/// assert_eq!(again.call(Call::FreePages), Err(Unfit));
+/// assert_eq!(again.call(Call::FreePages), Err(Unfit::Acceptance));
 /// # Ok::<(), Unfit>(())
 /// ```
 #[derive(Clone, PartialEq, Eq)]
-pub struct Monitor<M = Vec<u32>, L = Vec<u32>> {
+pub struct Monitor<
+    #[cfg(feature = "alloc")] M = alloc::vec::Vec<u32>,
+    #[cfg(feature = "alloc")] L = alloc::vec::Vec<u32>,
+    #[cfg(not(feature = "alloc"))] M,
+    #[cfg(not(feature = "alloc"))] L,
+> {
     machine: Machine,
     memory: Memory<M>,
     ledger: Ledger<L>,
-}
-
-impl Monitor {
-    /// A machine of its own words: memory zero, all pages free, this key.
-    pub fn boot(machine: Machine, key: &Key) -> Result<Monitor, Unfit> {
-        // No memory is set aside for numbers that do not fit.
-        if !machine.fits() {
-            return Err(Unfit);
-        }
-        Monitor::boot_over(machine, Memory::zeros(machine), Ledger::zeros(machine), key)
-    }
 }
 
 impl<M: AsMut<[u32]>, L: AsMut<[u32]>> Monitor<M, L> {
@@ -53,35 +47,34 @@ impl<M: AsMut<[u32]>, L: AsMut<[u32]>> Monitor<M, L> {
         mut ledger: Ledger<L>,
         key: &Key,
     ) -> Result<Monitor<M, L>, Unfit> {
-        match words::boot(machine, key.words(), memory.words_mut(), ledger.words_mut()) {
+        let (key, mem, led) = (key.words(), memory.words_mut(), ledger.words_mut());
+        match words::boot(machine, key, mem, led) {
             DONE => Ok(Monitor { machine, memory, ledger }),
-            _ => Err(Unfit),
+            _ => Err(Unfit::of_boot(machine, key, mem, led)),
         }
     }
 
     /// One call.
     pub fn call(&mut self, call: Call) -> Result<Answer, Unfit> {
-        let mut answer = [0; RECORD_WORDS];
-        self.batch_words(&call.encode(), &mut answer)?;
-        Ok(answer_to(&call, &answer))
+        self.batch_of([call]).map(|[answer]| answer)
     }
 
-    /// Up to [`crate::layout::MOST_CALLS`] calls, in order. The words are judged once, before them.
-    pub fn batch(&mut self, calls: &[Call]) -> Result<Vec<Answer>, Unfit> {
-        let records: Vec<u32> = calls.iter().flat_map(Call::encode).collect();
-        let mut answers = vec![0; records.len()];
-        self.batch_words(&records, &mut answers)?;
-        let answers =
-            answers.chunks_exact(RECORD_WORDS).map(|record| record.try_into().expect("a record"));
-        Ok(calls.iter().zip(answers).map(|(call, record)| answer_to(call, record)).collect())
+    /// As many calls as an array has, in order, without an allocator: their
+    /// records and the answers' stand on the stack meanwhile.
+    pub fn batch_of<const N: usize>(&mut self, calls: [Call; N]) -> Result<[Answer; N], Unfit> {
+        let records = calls.map(|call| call.encode());
+        let mut answers = [[0; RECORD_WORDS]; N];
+        self.batch_words(records.as_flattened(), answers.as_flattened_mut())?;
+        Ok(array::from_fn(|place| answer_to(&calls[place], &answers[place])))
     }
 
     /// A batch in words: whole records and as many words for the answers.
     pub fn batch_words(&mut self, calls: &[u32], answers: &mut [u32]) -> Result<(), Unfit> {
-        let (memory, ledger) = (self.memory.words_mut(), self.ledger.words_mut());
-        match words::batch(self.machine, memory, ledger, calls, answers) {
+        let (machine, memory) = (self.machine, self.memory.words_mut());
+        let ledger = self.ledger.words_mut();
+        match words::batch(machine, memory, ledger, calls, answers) {
             DONE => Ok(()),
-            _ => Err(Unfit),
+            _ => Err(Unfit::of_batch(machine, memory, ledger, calls, answers)),
         }
     }
 
@@ -105,10 +98,10 @@ impl<M: AsRef<[u32]>, L: AsRef<[u32]>> Monitor<M, L> {
     ) -> Result<Monitor<M, L>, Unfit> {
         let monitor = Monitor { machine, memory, ledger };
         if monitor.accepted() {
-            Ok(monitor)
-        } else {
-            Err(Unfit)
+            return Ok(monitor);
         }
+        let (memory, ledger) = (monitor.memory.words(), monitor.ledger.words());
+        Err(Unfit::of_accepts(machine, memory, ledger))
     }
 
     /// Whether the words are accepted as they are.
@@ -150,6 +143,6 @@ impl<M: AsRef<[u32]>, L: AsRef<[u32]>> fmt::Debug for Monitor<M, L> {
 }
 
 /// The library is proved to answer each call by its own row of the table.
-fn answer_to(call: &Call, record: &Record) -> Answer {
+pub(crate) fn answer_to(call: &Call, record: &Record) -> Answer {
     Answer::decode(call, record).expect("an answer of this call's row")
 }

@@ -1,8 +1,8 @@
 //! The shift on box A in typed calls, row by row.
 
-use monitor::layout::{MAP_START, MOST_CALLS, MOST_FRAMES, RECORD_WORDS};
+use monitor::layout::MAP_START;
 use monitor::Refusal::{self, *};
-use monitor::{Answer, Call, Key, Machine, Mapping, Monitor, Page, Registers, Unfit};
+use monitor::{Answer, Call, Key, Machine, Mapping, Monitor, Page, Registers};
 
 const KEY: Key = Key::new([11, 12, 13, 14, 15, 16, 17, 18]);
 
@@ -113,20 +113,6 @@ fn one_batch() {
     );
     assert!(whole == single);
     assert_eq!(whole.batch(&[]), Ok(vec![]));
-}
-
-#[test]
-fn what_does_not_fit() {
-    let machine = Machine { frames: MOST_FRAMES + 1, ..Machine::BOX_A };
-    assert_eq!(Monitor::boot(machine, &KEY), Err(Unfit));
-    let mut bench = Shift::fresh().0;
-    let before = bench.clone();
-    assert_eq!(bench.batch(&[Call::FreePages; MOST_CALLS + 1]), Err(Unfit));
-    assert_eq!(bench.batch_words(&[0; RECORD_WORDS - 1], &mut [0; RECORD_WORDS - 1]), Err(Unfit));
-    assert_eq!(bench.batch_words(&[0; RECORD_WORDS], &mut [0; 2 * RECORD_WORDS]), Err(Unfit));
-    assert!(bench == before);
-    let most = bench.batch(&[Call::FreePages; MOST_CALLS]);
-    assert_eq!(most.map(|answers| answers.len()), Ok(MOST_CALLS));
 }
 
 #[test]

@@ -4,7 +4,8 @@ use crate::layout::{KEY_WORDS, REGISTERS};
 use crate::record::{part, record_of, Record};
 use crate::refusal::Refusal;
 use crate::registers::Registers;
-use std::fmt;
+use crate::values::Values;
+use core::fmt;
 
 /// The answer of a call.
 ///
@@ -93,25 +94,27 @@ impl Answer {
     }
 
     /// The values after the number.
-    pub fn values(&self) -> Vec<u32> {
+    pub fn values(&self) -> Values {
         match self {
-            Answer::Refused(_) | Answer::Done | Answer::Interrupted | Answer::Faulted => vec![],
-            Answer::Free { count, lowest } => vec![*count, *lowest],
-            Answer::Runs(registers) => registers.words().to_vec(),
-            Answer::Attested(mac) => mac.to_vec(),
-            Answer::Verified(yes) => vec![u32::from(*yes)],
+            Answer::Refused(_) | Answer::Done | Answer::Interrupted | Answer::Faulted => {
+                Values::of(&[])
+            }
+            Answer::Free { count, lowest } => Values::of(&[*count, *lowest]),
+            Answer::Runs(registers) => Values::of(&registers.words()),
+            Answer::Attested(mac) => Values::of(mac),
+            Answer::Verified(yes) => Values::of(&[u32::from(*yes)]),
             Answer::Pages(word)
             | Answer::Random(word)
             | Answer::Exited(word)
-            | Answer::Loaded(word) => vec![*word],
+            | Answer::Loaded(word) => Values::of(&[*word]),
         }
     }
 
     /// The record of this answer: code, values, zeros.
     pub fn encode(&self) -> Record {
-        let mut words = vec![self.code()];
-        words.extend(self.values());
-        record_of(&words)
+        let (mut record, values) = (record_of(&[self.code()]), self.values());
+        record[1..][..values.len()].copy_from_slice(&values);
+        record
     }
 }
 

@@ -1,5 +1,5 @@
 use crate::layout::KEY_WORDS;
-use std::fmt;
+use core::fmt;
 
 /// The key for attestations. Printed for debugging it shows none of its words.
 ///

@@ -74,7 +74,7 @@ pub mod word {
 }
 
 /// Where the record of this page stands in the ledger.
-pub const fn record_of(page: u32) -> std::ops::Range<usize> {
+pub const fn record_of(page: u32) -> core::ops::Range<usize> {
     let start = RECORD_WORDS.saturating_mul(page as usize).saturating_add(HEADER_WORDS);
     start..start.saturating_add(RECORD_WORDS)
 }

@@ -2,10 +2,9 @@ use crate::key::Key;
 use crate::layout::{
     record_of, word, HEADER_WORDS, KEY_START, MAP_START, MAP_WORDS, RECORD_WORDS, RUNNING,
 };
-use crate::machine::Machine;
 use crate::page::Page;
 use crate::record::Record;
-use std::fmt;
+use core::fmt;
 
 /// The ledger: a header and a record a page. `W` holds the words, as in
 /// [`crate::Memory`].
@@ -27,14 +26,10 @@ use std::fmt;
 /// assert_eq!(format!("{ledger:?}"), format!("Ledger {{ {shown} }}"));
 /// ```
 #[derive(Clone, PartialEq, Eq)]
-pub struct Ledger<W = Vec<u32>>(W);
-
-impl Ledger {
-    /// Zeros for this machine: no fresh ledger yet, which boot writes.
-    pub fn zeros(machine: Machine) -> Ledger {
-        Ledger(vec![0; machine.ledger_words()])
-    }
-}
+pub struct Ledger<
+    #[cfg(feature = "alloc")] W = alloc::vec::Vec<u32>,
+    #[cfg(not(feature = "alloc"))] W,
+>(W);
 
 impl<W> Ledger<W> {
     /// A ledger over these words.
@@ -72,7 +67,7 @@ impl<W: AsRef<[u32]>> Ledger<W> {
 
     /// The key for attestations.
     pub fn key(&self) -> Key {
-        Key::new(std::array::from_fn(|place| self.header(KEY_START + place)))
+        Key::new(core::array::from_fn(|place| self.header(KEY_START + place)))
     }
 
     /// Whether the free map says that this page is free.

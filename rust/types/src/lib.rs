@@ -3,9 +3,18 @@
 //!
 //! - [`Machine`] is the box's numbers, [`Memory`] and [`Ledger`] what is lent,
 //!   [`Page`] a record of the ledger, [`Mapping`] a mapping word.
-//! - [`Call`] and [`Answer`] are the table of calls; [`Refusal`] the reasons.
+//! - [`Call`] and [`Answer`] are the table of calls, [`Row`] a row of it;
+//!   [`Refusal`] is why a call is refused, [`Unfit`] why a service says 18.
 //! - [`layout`] has the sizes and places, [`code`] the numbers of answers that
 //!   are no refusals.
+//!
+//! It needs no `std`. The feature `alloc`, which is on unless it is turned off,
+//! adds the forms that own their words (`Memory::zeros`, `Ledger::zeros`).
+
+#![no_std]
+
+#[cfg(feature = "alloc")]
+extern crate alloc;
 
 mod answer;
 mod call;
@@ -16,12 +25,15 @@ mod ledger;
 mod machine;
 mod mapping;
 mod memory;
+#[cfg(feature = "alloc")]
+mod owned;
 mod page;
 mod record;
 mod refusal;
 mod registers;
 mod rule;
 mod unfit;
+mod values;
 
 pub use answer::Answer;
 pub use call::{Call, Row};
@@ -35,4 +47,5 @@ pub use record::Record;
 pub use refusal::Refusal;
 pub use registers::Registers;
 pub use rule::Rule;
-pub use unfit::Unfit;
+pub use unfit::{List, Unfit};
+pub use values::Values;

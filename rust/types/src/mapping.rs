@@ -1,5 +1,5 @@
 use crate::layout::{FRAME_WORDS, MOST_TABLES};
-use std::fmt;
+use core::fmt;
 
 const READ: u32 = 1;
 const WRITE: u32 = 2;

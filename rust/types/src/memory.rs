@@ -1,6 +1,5 @@
 use crate::layout::FRAME_WORDS;
-use crate::machine::Machine;
-use std::fmt;
+use core::fmt;
 
 /// The memory: [`FRAME_WORDS`] a frame. `W` holds the words: a `Vec<u32>` owns
 /// them, a `&mut [u32]` borrows them, a `&[u32]` only reads them.
@@ -22,16 +21,12 @@ use std::fmt;
 /// assert_eq!(Memory::over(&mut mine[..]).frame_mut(1).unwrap().len(), FRAME_WORDS);
 /// ```
 #[derive(Clone, PartialEq, Eq)]
-pub struct Memory<W = Vec<u32>>(W);
+pub struct Memory<
+    #[cfg(feature = "alloc")] W = alloc::vec::Vec<u32>,
+    #[cfg(not(feature = "alloc"))] W,
+>(W);
 
-impl Memory {
-    /// Zeros for this machine.
-    pub fn zeros(machine: Machine) -> Memory {
-        Memory(vec![0; machine.memory_words()])
-    }
-}
-
-fn range_of(frame: u32) -> std::ops::Range<usize> {
+fn range_of(frame: u32) -> core::ops::Range<usize> {
     let start = (frame as usize).saturating_mul(FRAME_WORDS);
     start..start.saturating_add(FRAME_WORDS)
 }

@@ -17,5 +17,5 @@ pub(crate) fn zero_from(record: &Record, word: usize) -> bool {
 
 /// `N` words of a record from `start` on.
 pub(crate) fn part<const N: usize>(record: &Record, start: usize) -> [u32; N] {
-    std::array::from_fn(|place| record[start + place])
+    core::array::from_fn(|place| record[start + place])
 }

@@ -1,4 +1,4 @@
-use std::fmt;
+use core::fmt;
 
 /// Why a call was refused. A refused call changes nothing.
 ///
@@ -125,4 +125,4 @@ impl fmt::Display for Refusal {
     }
 }
 
-impl std::error::Error for Refusal {}
+impl core::error::Error for Refusal {}

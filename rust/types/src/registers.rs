@@ -12,10 +12,10 @@ pub struct Registers {
 impl Registers {
     /// The registers of these words, the flags last.
     pub(crate) fn of(words: [u32; SAVED_WORDS]) -> Registers {
-        Registers { r: std::array::from_fn(|place| words[place]), flags: words[REGISTERS] }
+        Registers { r: core::array::from_fn(|place| words[place]), flags: words[REGISTERS] }
     }
 
     pub(crate) fn words(&self) -> [u32; SAVED_WORDS] {
-        std::array::from_fn(|place| *self.r.get(place).unwrap_or(&self.flags))
+        core::array::from_fn(|place| *self.r.get(place).unwrap_or(&self.flags))
     }
 }

@@ -1,5 +1,5 @@
 use crate::layout::{MOST_FRAMES, MOST_PAGES};
-use std::fmt;
+use core::fmt;
 
 /// A rule that a box's numbers F, s, n, m and k keep.
 #[derive(Clone, Copy, Debug, PartialEq, Eq, Hash)]

@@ -72,7 +72,7 @@ impl<const N: usize> Argument for [u32; N] {
     }
 
     fn take(words: &mut Reader) -> [u32; N] {
-        std::array::from_fn(|_| words.take())
+        core::array::from_fn(|_| words.take())
     }
 }
 

@@ -7,7 +7,7 @@ pub use table::Call;
 
 use crate::record::{zero_from, Record};
 use argument::{Reader, Writer};
-use std::fmt;
+use core::fmt;
 
 impl Row {
     /// The row of the call of this number.
