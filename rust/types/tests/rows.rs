@@ -48,16 +48,25 @@ fn answers_are_those_of_the_second_program() {
     assert_eq!(ours, second.collect());
 }
 
-/// The codes of one check in a row of the rules: `PG t`, or `7 slot taken`.
-/// Remove asks pages of other types otherwise, and 13 is theirs too.
-fn codes(check: &str) -> Vec<u32> {
-    let shared = [("AS ", [1, 3]), ("PG ", [1, 2]), ("ADDR ", [8, 7])];
-    if let Some((_, codes)) = shared.iter().find(|(name, _)| check.starts_with(name)) {
-        return codes.to_vec();
-    }
-    let check = check.strip_prefix("p a space: ").unwrap_or(check);
-    let number = |part: &str| part.split(' ').next().and_then(|word| word.parse().ok());
-    check.split(", ").filter_map(number).collect()
+/// What the rules say of a check that calls share, as `PG t`.
+fn shared(check: &str) -> Option<&'static str> {
+    let name = check.split(' ').next()?;
+    let named = !name.is_empty() && name.bytes().all(|letter| letter.is_ascii_uppercase());
+    let start = format!("| {name} ");
+    let line = RULES.lines().find_map(|line| line.strip_prefix(&start)).filter(|_| named)?;
+    line.split('|').nth(1)
+}
+
+/// The codes of checks in the rules: `PG t; 7 slot taken`. Where Remove asks
+/// pages of other types otherwise, 13 is theirs too.
+fn codes(checks: &str) -> Vec<u32> {
+    let own = |check: &str| -> Vec<u32> {
+        let check = check.strip_prefix("p a space: ").unwrap_or(check);
+        let number = |part: &str| part.split(' ').next().and_then(|word| word.parse().ok());
+        check.split(", ").filter_map(number).collect()
+    };
+    let all = |check: &str| shared(check).map_or_else(|| own(check), codes);
+    checks.trim().split("; ").flat_map(all).collect()
 }
 
 #[test]
@@ -68,9 +77,8 @@ fn refusals_have_the_order_of_the_rules() {
         let [_, number, _, words, refusals, _, _, _] = cells[..] else { continue };
         let Some(row) = number.parse().ok().and_then(Row::of) else { continue };
         assert_eq!(words.parse(), Ok(row.words()), "{line}");
-        let written: Vec<u32> = refusals.split("; ").flat_map(codes).collect();
         let ours: Vec<u32> = row.refusals.iter().map(|refusal| refusal.code()).collect();
-        assert_eq!(ours, written, "{line}");
+        assert_eq!(ours, codes(refusals), "{line}");
         found += 1;
     }
     assert_eq!(found, Call::ROWS.len());
