@@ -49,6 +49,9 @@ pub enum Unfit {
 /// The arguments are those of the services in words. Asked where a service has
 /// said 18 or no, each has the reason.
 impl Unfit {
+    /// What 18 means, whichever reason it has.
+    pub const IN_WORDS: &str = "numbers or lengths do not fit, or acceptance says no";
+
     /// Why acceptance says no.
     pub fn of_accepts(machine: Machine, memory: &[u32], ledger: &[u32]) -> Unfit {
         of_lent(machine, memory, ledger).unwrap_or(Unfit::Acceptance)

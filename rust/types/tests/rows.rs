@@ -3,8 +3,9 @@
 use second::calls::CALLS;
 use second::random::allowed_pairs;
 use std::collections::BTreeSet;
+use types::code::UNFIT;
 use types::layout::RECORD_WORDS;
-use types::{Call, Refusal, Row};
+use types::{Call, Refusal, Row, Unfit};
 
 const RULES: &str = include_str!("../../../docs/RULES.md");
 
@@ -82,4 +83,10 @@ fn refusals_have_the_order_of_the_rules() {
         found += 1;
     }
     assert_eq!(found, Call::ROWS.len());
+}
+
+#[test]
+fn eighteen_means_what_the_rules_say() {
+    let row = format!("| {UNFIT} | {} |", Unfit::IN_WORDS);
+    assert!(RULES.lines().any(|line| line.starts_with(&row)), "{row}");
 }
