@@ -1,8 +1,8 @@
 /* The proved enclave monitor: three services for a host.
 
-   A box has F frames. Its secure frames are s to s+n-1, the monitor's own m to m+k-1; every other frame below F is insecure. Secure page p
-   is frame s+p. A word is unsigned and has 32 bits. The host lends the memory, F * MONITOR_FRAME_WORDS words, and the ledger,
-   MONITOR_HEADER_WORDS + n * MONITOR_RECORD_WORDS words, and the services read and write them in place.
+   A box has frames, secure ones, the monitor's own and insecure ones: struct monitor_machine below has its five numbers. A word is unsigned
+   and has 32 bits. The host lends the memory, MONITOR_FRAME_WORDS words a frame, and the ledger, MONITOR_HEADER_WORDS words and
+   MONITOR_RECORD_WORDS a page, and the services read and write them in place.
 
    What the services promise, for any words and numbers whatever:
    - Each answers and returns. They keep nothing between calls and call nothing back.
@@ -12,9 +12,19 @@
    What the host owes, which C cannot check:
    - Each pointer is not null, aligned for uint32_t, and good for the number of words beside it, also where that number is 0.
    - A list that a service writes (memory, ledger, answers; not acceptance's) overlaps no other list of the same call.
-   - Nobody else writes the lists, or reads those that are written, until the service returns.
+   - Nobody else writes the lists, or reads those that are written, until the service returns. Nobody: no other core, no interrupt handler,
+     no device. Every list is lent: memory (insecure frames too), ledger, key, calls, answers. A call that comes from an untrusted caller is
+     first copied to where that caller cannot write.
+   - The stack that a service runs on is in none of the lists, large enough, and out of everybody's reach, devices' too, also afterwards:
+     words of the key and of pages stay on it. docs/HOST.md, "Facts for a freestanding host", has the figures, and the registers used.
+   - Between services others, devices too, write insecure frames alone. The monitor's frames, the secure ones and the ledger are kept from
+     them by the hardware, and an enclave's loads and stores do as MONITOR_LOAD and MONITOR_STORE say.
 
-   Link with libmonitor.a, which '.ci/library monitor' writes (x86-64). */
+   The numbers are here, and the services at the end. monitor_helpers.h, which is included last, has what a host would otherwise write
+   itself: the services over a struct, mapping words, the codes in words. Nothing hangs on it.
+
+   Both are C99 and C++17, and include nothing that a freestanding compiler lacks. Link with libmonitor.a, which '.ci/library monitor'
+   writes (x86-64). */
 #ifndef MONITOR_H
 #define MONITOR_H
 
@@ -22,19 +32,42 @@
 #include <stddef.h>
 #include <stdint.h>
 
+#define MONITOR_VERSION_MAJOR 0
+#define MONITOR_VERSION_MINOR 1
+#define MONITOR_VERSION_PATCH 0
+#define MONITOR_VERSION "0.1.0"
+
 #ifdef __cplusplus
 extern "C" {
 #endif
 
 /* Sizes. */
 enum {
-    MONITOR_MOST_FRAMES = 4096, /* F, from 1 on */
-    MONITOR_MOST_PAGES = 256,   /* n, from 1 on */
-    MONITOR_FRAME_WORDS = 1024,
+    MONITOR_MOST_FRAMES = 4096,
+    MONITOR_MOST_PAGES = 256,
+    MONITOR_MOST_TABLES = 256,  /* of an enclave: the indices of a mapping word */
+    MONITOR_FRAME_WORDS = 1024, /* of a frame, of a page; the slots of a table */
     MONITOR_HEADER_WORDS = 32,
     MONITOR_RECORD_WORDS = 32, /* of a page in the ledger, of a call and of its answer */
     MONITOR_KEY_WORDS = 8,
     MONITOR_MOST_CALLS = 512 /* in a batch */
+};
+
+/* The box's numbers: which frames there are, and whose. Every frame below frames that is neither secure nor the monitor's is insecure. The
+   services take the five one by one, in this order; docs/RULES.md calls them F, s, n, m and k. */
+struct monitor_machine {
+    uint32_t frames;   /* F: how many frames there are, 1 to MONITOR_MOST_FRAMES */
+    uint32_t secure;   /* s: the first secure frame */
+    uint32_t pages;    /* n: how many secure frames, 1 to MONITOR_MOST_PAGES; page p is frame secure + p */
+    uint32_t monitor;  /* m: the monitor's first frame */
+    uint32_t monitors; /* k: how many frames the monitor has, at least 1 */
+};
+
+/* Rights of a mapping word. Read is always among them, so they are 1, 3, 5 or 7. */
+enum monitor_rights {
+    MONITOR_READ = 1,
+    MONITOR_WRITE = 2,
+    MONITOR_EXECUTE = 4
 };
 
 /* The numbers in word 0 of a call record, and the arguments that follow; the words after them are zero. */
@@ -99,21 +132,22 @@ enum monitor_code {
 };
 
 /* Boot: a fresh ledger with all pages free and this key of 8 words; secure frames zero, other frames unchanged. Nothing is asked of the
-   words that were there. Answers MONITOR_DONE; MONITOR_UNFIT where numbers or lengths break the rules. */
-uint32_t monitor_boot(uint32_t F, uint32_t s, uint32_t n, uint32_t m, uint32_t k,
+   words that were there. The ledger has the key from then on: wipe the list that it came in. Answers MONITOR_DONE; MONITOR_UNFIT where
+   numbers or lengths break the rules. */
+uint32_t monitor_boot(uint32_t frames, uint32_t secure, uint32_t pages, uint32_t monitor, uint32_t monitors,
                       const uint32_t *key, size_t key_words,
                       uint32_t *memory, size_t memory_words,
                       uint32_t *ledger, size_t ledger_words);
 
 /* Acceptance: whether the memory and the ledger are in order, numbers and lengths included. Writes nothing. */
-bool monitor_accepts(uint32_t F, uint32_t s, uint32_t n, uint32_t m, uint32_t k,
+bool monitor_accepts(uint32_t frames, uint32_t secure, uint32_t pages, uint32_t monitor, uint32_t monitors,
                      const uint32_t *memory, size_t memory_words,
                      const uint32_t *ledger, size_t ledger_words);
 
 /* A batch: 0 to MONITOR_MOST_CALLS call records, and an answer list of equal length. Acceptance is asked first; then the records are obeyed
    in order, each answered in its record of the answers. Answers MONITOR_DONE; MONITOR_UNFIT where numbers or lengths break the rules or
    acceptance says no. From an accepted state every batch leads to an accepted state, whatever others write to insecure frames between. */
-uint32_t monitor_batch(uint32_t F, uint32_t s, uint32_t n, uint32_t m, uint32_t k,
+uint32_t monitor_batch(uint32_t frames, uint32_t secure, uint32_t pages, uint32_t monitor, uint32_t monitors,
                        uint32_t *memory, size_t memory_words,
                        uint32_t *ledger, size_t ledger_words,
                        const uint32_t *calls, size_t calls_words,
@@ -122,5 +156,7 @@ uint32_t monitor_batch(uint32_t F, uint32_t s, uint32_t n, uint32_t m, uint32_t 
 #ifdef __cplusplus
 }
 #endif
+
+#include "monitor_helpers.h"
 
 #endif

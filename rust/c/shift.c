@@ -1,4 +1,4 @@
-/* The shift on box A from C, over include/monitor.h: every row's answer as the build description has it. Prints one line; any other
+/* The shift on box A from C, over include/monitor.h: every row's answer as docs/RULES.md has it. Prints one line; any other
    answer is named, and the exit status is then 1. */
 #include "monitor.h"
 

@@ -1,8 +1,16 @@
-//! The C header has the same names and numbers.
+//! The C headers have the same names, numbers, texts and version.
 
-use monitor::{layout, words, Answer, Call, Refusal};
+use monitor::{layout, words, Answer, Call, Mapping, Refusal, Unfit};
 
-const HEADER: &str = include_str!("../../../include/monitor.h");
+const HEADER: &str = concat!(
+    include_str!("../../../include/monitor.h"),
+    include_str!("../../../include/monitor_helpers.h")
+);
+
+/// Whether a line of the header, leading blanks aside, is this.
+fn has(wanted: &str) -> bool {
+    HEADER.lines().any(|line| line.trim_start() == wanted)
+}
 
 /// Whether the header gives this name this number.
 fn defines(name: &str, number: usize) -> bool {
@@ -26,9 +34,12 @@ fn in_capitals(shown: &str) -> String {
     name
 }
 
-fn agrees(shown: &dyn std::fmt::Debug, number: u32) {
+/// The header names this number as Rust does, and has this text for it.
+fn agrees(shown: &dyn std::fmt::Debug, number: u32, text: &str) {
     let name = in_capitals(&format!("{shown:?}"));
     assert!(defines(&name, number as usize), "MONITOR_{name} = {number}");
+    let case = format!("case MONITOR_{name}: return \"{text}\";");
+    assert!(has(&case), "{case}");
 }
 
 #[test]
@@ -36,19 +47,38 @@ fn calls() {
     for number in Call::NUMBERS {
         let mut record = [0; layout::RECORD_WORDS];
         record[0] = *number;
-        agrees(&Call::decode(&record).expect("a call"), *number);
+        let call = Call::decode(&record).expect("a call");
+        agrees(&call, *number, call.name());
     }
 }
 
 #[test]
 fn codes() {
     for refusal in Refusal::ALL {
-        agrees(&refusal, refusal.code());
+        agrees(&refusal, refusal.code(), &refusal.to_string());
     }
     for answer in [Answer::Done, Answer::Interrupted, Answer::Faulted] {
-        agrees(&answer, answer.code());
+        agrees(&answer, answer.code(), &answer.to_string());
     }
-    assert!(defines("UNFIT", words::UNFIT as usize));
+    agrees(&format_args!("Unfit"), words::UNFIT, Unfit::IN_WORDS);
+}
+
+#[test]
+fn version() {
+    let version = env!("CARGO_PKG_VERSION");
+    assert!(has(&format!("#define MONITOR_VERSION \"{version}\"")), "{version}");
+    for (part, number) in ["MAJOR", "MINOR", "PATCH"].into_iter().zip(version.split('.')) {
+        assert!(has(&format!("#define MONITOR_VERSION_{part} {number}")), "{part} {number}");
+    }
+}
+
+#[test]
+fn rights() {
+    let read = Mapping::new(0, 0).expect("in range");
+    for (name, with) in [("WRITE", read.writable()), ("EXECUTE", read.executable())] {
+        assert!(defines(name, (with.word() - read.word()) as usize), "{name}");
+    }
+    assert!(defines("READ", read.word() as usize));
 }
 
 #[test]
@@ -56,6 +86,7 @@ fn lengths() {
     for (name, number) in [
         ("MOST_FRAMES", layout::MOST_FRAMES as usize),
         ("MOST_PAGES", layout::MOST_PAGES as usize),
+        ("MOST_TABLES", layout::MOST_TABLES as usize),
         ("FRAME_WORDS", layout::FRAME_WORDS),
         ("HEADER_WORDS", layout::HEADER_WORDS),
         ("RECORD_WORDS", layout::RECORD_WORDS),
@@ -66,10 +97,14 @@ fn lengths() {
     }
 }
 
-/// As many names as are tried above, so that none is there in vain.
+/// As many names and texts as are tried above, so that none is there in vain.
 #[test]
 fn no_more_names() {
-    let lines = HEADER.lines().filter(|line| line.trim_start().starts_with("MONITOR_"));
-    let names = lines.filter(|line| line.contains(" = ")).count();
-    assert_eq!(names, Call::NUMBERS.len() + Refusal::ALL.len() + 4 + 7);
+    let count =
+        |start: &str| HEADER.lines().filter(|line| line.trim_start().starts_with(start)).count();
+    let names = HEADER.lines().filter(|line| line.trim_start().starts_with("MONITOR_"));
+    let texts = Call::NUMBERS.len() + Refusal::ALL.len() + 4;
+    assert_eq!(names.filter(|line| line.contains(" = ")).count(), texts + 8 + 3);
+    assert_eq!(count("case "), texts);
+    assert_eq!(count("#define MONITOR_VERSION"), 4);
 }
