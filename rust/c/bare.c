@@ -1,0 +1,34 @@
+/* A host without a C library. It is linked at a kernel's address, and never run: the services need nothing but these two functions. */
+#include "monitor.h"
+
+void *memcpy(void *to, const void *from, size_t bytes);
+void *memset(void *to, int value, size_t bytes);
+void begin(void);
+
+static uint32_t memory[2 * MONITOR_FRAME_WORDS], ledger[MONITOR_HEADER_WORDS + MONITOR_RECORD_WORDS], key[MONITOR_KEY_WORDS];
+
+/* Volatile, so that no compiler makes a call of itself out of the loop. */
+void *memcpy(void *to, const void *from, size_t bytes)
+{
+    volatile unsigned char *into = (volatile unsigned char *)to;
+    const unsigned char *of = (const unsigned char *)from;
+    while (bytes-- > 0)
+        *into++ = *of++;
+    return to;
+}
+
+void *memset(void *to, int value, size_t bytes)
+{
+    volatile unsigned char *into = (volatile unsigned char *)to;
+    while (bytes-- > 0)
+        *into++ = (unsigned char)value;
+    return to;
+}
+
+void begin(void)
+{
+    struct monitor_machine box = {2, 1, 1, 0, 1};
+    monitor_boot_on(&box, key, MONITOR_KEY_WORDS, memory, 2048, ledger, 64);
+    if (monitor_accepts_on(&box, memory, 2048, ledger, 64))
+        monitor_batch_on(&box, memory, 2048, ledger, 64, key, 0, key, 0);
+}
