@@ -105,6 +105,7 @@ static inline uint32_t monitor_mapping(uint32_t index, uint32_t slot, uint32_t r
     return is_page ? monitor_mapping_at(index << 22 | slot << 12, rights) : 0;
 }
 
+/* Its parts; the address is the page's, in bytes. */
 static inline uint32_t monitor_mapping_index(uint32_t mapping) { return mapping >> 22 & 0xFF; }
 static inline uint32_t monitor_mapping_slot(uint32_t mapping) { return mapping >> 12 & 0x3FF; }
 static inline uint32_t monitor_mapping_address(uint32_t mapping) { return mapping & UINT32_C(0x3FFFF000); }

@@ -120,6 +120,17 @@ static void lives(const struct monitor_machine *machine, size_t records)
     is_accepted(machine);
 }
 
+/* Numbers of calls and numbers of none, all arguments zero: refused for the most part. */
+static void refusals(const struct monitor_machine *machine)
+{
+    uint32_t record;
+    memset(calls, 0, sizeof calls);
+    for (record = 0; record < MONITOR_MOST_CALLS; record++)
+        calls[record * RECORD] = record % 64;
+    obeys(machine, MONITOR_MOST_CALLS);
+    is_accepted(machine);
+}
+
 static void compare(const struct service *service, int count, char **words)
 {
     int word;
@@ -141,8 +152,9 @@ int main(int count, char **words)
         boots(&boxes[box]);
         is_accepted(&boxes[box]);
         lives(&boxes[box], MONITOR_MOST_CALLS - MONITOR_MOST_CALLS % LIFE);
-        lives(&boxes[box], 0);
         lives(&boxes[box], BUSY);
+        lives(&boxes[box], 0);
+        refusals(&boxes[box]);
     }
     printf("C: bytes of stack written, of those the code can need");
     compare(&boot, count, words);
