@@ -16,7 +16,7 @@
      no device. Every list is lent: memory (insecure frames too), ledger, key, calls, answers. A call that comes from an untrusted caller is
      first copied to where that caller cannot write.
    - The stack that a service runs on is in none of the lists, large enough, and out of everybody's reach, devices' too, also afterwards:
-     words of the key and of pages stay on it. docs/HOST.md, "Facts for a freestanding host", has the figures, and the registers used.
+     words of the key and of pages may stay on it. docs/HOST.md, "Facts for a freestanding host", has the figures, and the registers used.
    - Between services others, devices too, write insecure frames alone. The monitor's frames, the secure ones and the ledger are kept from
      them by the hardware, and an enclave's loads and stores do as MONITOR_LOAD and MONITOR_STORE say.
 
