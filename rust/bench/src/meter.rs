@@ -40,6 +40,14 @@ impl Meter {
         }
     }
 
+    /// A large cost, and its unit where it is another than [`Meter::unit`].
+    pub fn large(&self, cost: f64) -> String {
+        match self {
+            Meter::Clock => format!("{:.3} ms", cost / 1e6),
+            Meter::Emulator(_) | Meter::Callgrind(..) => format!("{cost:.0}"),
+        }
+    }
+
     /// The cost of one run of each side, all measured in turns.
     pub fn measure(&self, sides: &mut [&mut dyn Side]) -> Vec<f64> {
         match self {

@@ -3,6 +3,7 @@
 use second::layout::{BLOCK_WORDS, HASH_WORDS};
 pub use second::sha::Hash;
 
+/// The hash before any block.
 pub const START: Hash = [
     0x6a09e667, 0xbb67ae85, 0x3c6ef372, 0xa54ff53a, 0x510e527f, 0x9b05688c, 0x1f83d9ab, 0x5be0cd19,
 ];

@@ -1,11 +1,12 @@
-//! The rows of the table.
+//! The rows of the table beside plain Rust.
 
-mod boxes;
+pub mod acceptance;
 mod calls;
 mod hashes;
 
+use crate::lists::{on_larger_boxes, works, Work};
 use crate::meter::Meter;
-use second::layout::MOST_PAGES;
+use crate::paid::Paid;
 
 /// A row: what is done, and what it costs in the meter's unit.
 pub struct Row {
@@ -21,14 +22,22 @@ pub struct Row {
     pub paper: &'static str,
 }
 
-/// All rows, each given away as soon as it is measured.
-pub fn all(meter: &Meter, give: &mut dyn FnMut(Row)) {
+/// All rows, each given away as soon as it is measured. What is paid for the
+/// calls is handed back.
+pub fn all(meter: &Meter, give: &mut dyn FnMut(Row)) -> Vec<Paid> {
     hashes::rows(meter).into_iter().for_each(&mut *give);
-    for pages in [8, 64, MOST_PAGES] {
-        give(boxes::acceptance(meter, "full", boxes::full(pages)));
+    for (name, lent) in acceptance::boxes() {
+        give(acceptance::row(meter, name, &lent));
     }
-    give(boxes::acceptance(meter, "fresh", boxes::box_after(MOST_PAGES, &[])));
-    for work in calls::works() {
-        give(calls::row(meter, &work));
-    }
+    let measured = |work: Work| {
+        let (row, paid) = calls::rows(meter, &work);
+        give(row);
+        paid
+    };
+    works().into_iter().map(measured).collect()
+}
+
+/// What is paid for cheap calls on larger boxes.
+pub fn paid_on_larger_boxes(meter: &Meter) -> Vec<Paid> {
+    on_larger_boxes().iter().map(|work| calls::rows(meter, work).1).collect()
 }

@@ -1,0 +1,101 @@
+//! The lists of calls that are measured.
+
+pub mod dearest;
+
+use crate::boxes::{enclave, records, small, writable, Lent, DATA_PAGE};
+use second::calls::number::*;
+use second::cases::KEY;
+use second::layout::{FRAME_WORDS, HASH_WORDS, MOST_CALLS, MOST_PAGES, RECORD_WORDS};
+use second::mapping::WORD_BYTES;
+
+/// A list on a box: one call, or a pair of calls, again and again.
+pub struct Work {
+    /// The call or the pair.
+    pub name: &'static str,
+    /// What the Komodo paper measured for the same, in cycles.
+    pub paper: &'static str,
+    /// The box.
+    pub lent: Lent,
+    /// The records.
+    pub calls: Vec<u32>,
+    /// How often the list has the call or the pair.
+    pub times: usize,
+}
+
+impl Work {
+    /// The call, or each call of the pair, once and in a list of its own.
+    pub fn alone(&self) -> Vec<&[u32]> {
+        self.calls[..self.calls.len() / self.times].chunks(RECORD_WORDS).collect()
+    }
+
+    /// As many records as a batch has, of one call or of two in turns.
+    fn of(
+        (name, paper): (&'static str, &'static str),
+        lent: Lent,
+        call: impl Fn(u32) -> Vec<Vec<u32>>,
+    ) -> Work {
+        let each = call(0).len();
+        let rows: Vec<Vec<u32>> = (0..(MOST_CALLS / each) as u32).flat_map(call).collect();
+        Work { name, paper, lent, calls: records(&rows), times: rows.len() / each }
+    }
+}
+
+fn get_phys_pages(pages: u32) -> Work {
+    Work::of(("GetPhysPages", "123"), enclave(pages, false), |_| vec![vec![GET_PHYS_PAGES]])
+}
+
+/// A word of the data page.
+fn address(turn: u32) -> u32 {
+    DATA_PAGE + WORD_BYTES * (turn * 37 % FRAME_WORDS as u32)
+}
+
+fn load(pages: u32) -> Work {
+    Work::of(("Load", ""), enclave(pages, true), |turn| vec![vec![LOAD, address(turn)]])
+}
+
+/// MapSecure uses its pages up, so its box is large and its list shorter.
+fn map_secure() -> Work {
+    let rows = [vec![INIT_ADDR_SPACE, 0, 1], vec![INIT_TABLE, 0, 2, 0]];
+    let lent = Lent::after(small(MOST_PAGES), &rows);
+    let rows: Vec<Vec<u32>> = (3..MOST_PAGES)
+        .map(|page| vec![MAP_SECURE, 0, page, writable(0, page), 2 + page % 4])
+        .collect();
+    Work { name: "MapSecure", paper: "", lent, calls: records(&rows), times: rows.len() }
+}
+
+fn verify(turn: u32) -> Vec<u32> {
+    let (data, measurement) = ([turn; HASH_WORDS], [7; HASH_WORDS]);
+    let mac = second::sha::mac(&KEY, &measurement, &data);
+    [&[VERIFY][..], &data, &measurement, &mac].concat()
+}
+
+/// The box of most lists.
+const PAGES: u32 = 8;
+
+/// The lists that stand beside plain Rust's.
+pub fn works() -> Vec<Work> {
+    let (idle, running) = (enclave(PAGES, false), enclave(PAGES, true));
+    let attest = |turn| vec![[&[ATTEST][..], &[turn; HASH_WORDS]].concat()];
+    vec![
+        get_phys_pages(PAGES),
+        load(PAGES),
+        Work::of(("Store", ""), running.clone(), |turn| vec![vec![STORE, address(turn), turn]]),
+        Work::of(("Enter + Exit", "738"), idle.clone(), |_| {
+            vec![vec![ENTER, 4, 7, 8, 9], vec![EXIT, 5]]
+        }),
+        Work::of(("AllocSpare + Remove", "217, AllocSpare"), idle, |_| {
+            vec![vec![ALLOC_SPARE, 0, 6], vec![REMOVE, 6]]
+        }),
+        Work::of(("MapData + UnmapData", "5826, MapData"), running.clone(), |_| {
+            vec![vec![MAP_DATA, 5, writable(0, 2)], vec![UNMAP_DATA, 5]]
+        }),
+        map_secure(),
+        Work::of(("Attest", "12411"), running.clone(), attest),
+        Work::of(("Verify", "13373"), running, |turn| vec![verify(turn)]),
+    ]
+}
+
+/// Two cheap calls on larger boxes.
+pub fn on_larger_boxes() -> Vec<Work> {
+    [get_phys_pages, load].iter().flat_map(|work| [work(64), work(MOST_PAGES)]).collect()
+}

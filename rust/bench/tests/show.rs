@@ -1,0 +1,62 @@
+//! The tables fit a page and say what they were given.
+
+use bench::bound::Bound;
+use bench::meter::Meter;
+use bench::paid::Paid;
+use bench::rows::acceptance;
+use bench::rows::Row;
+use bench::show;
+
+const WIDEST: usize = 100;
+
+fn fits(text: &str) -> bool {
+    text.lines().all(|line| line.chars().count() <= WIDEST && line.trim_end() == line)
+}
+
+fn row(name: &str) -> Row {
+    let paper = "217, AllocSpare";
+    Row { name: name.into(), ours: 9125735.4, plain: 10957021.0, folded: Some(9e6), paper }
+}
+
+#[test]
+fn rows_stand_under_their_heads() {
+    let meter = Meter::Clock;
+    let head = show::head(&meter);
+    assert!(fits(&head) && head.starts_with("nanoseconds"));
+    let end = |line: &str, word: &str| line.find(word).map(|start| start + word.len());
+    for (name, _) in acceptance::boxes() {
+        let line = show::row(&row(&name));
+        assert!(fits(&line), "{line}");
+        assert_eq!(end(&line, " 9125735"), end(head.lines().last().expect("a line"), "ours"));
+    }
+}
+
+#[test]
+fn what_is_paid_has_a_line_each() {
+    let paid = |name, pages| Paid {
+        name,
+        pages,
+        acceptance: 7213.0,
+        alone: 14706.0,
+        calls: 512,
+        shared: 284.4,
+        without: 256.0,
+    };
+    let text = show::paid(&[paid("AllocSpare + Remove", 8), paid("Load", 256)]);
+    assert!(fits(&text), "{text}");
+    let lines: Vec<Vec<&str>> =
+        text.lines().rev().take(2).map(|line| line.split_whitespace().collect()).collect();
+    assert_eq!(lines[0], ["Load", "256", "7213", "14706", "512", "284", "256"]);
+    assert_eq!(lines[1][..4], ["AllocSpare", "+", "Remove", "8"]);
+}
+
+#[test]
+fn the_bound_is_of_512_calls_and_acceptance() {
+    let bound = Bound { call: 225037.0, acceptance: 9125735.0, lists: [85817447.0, 63424556.0] };
+    assert_eq!(bound.bound(), 124344679.0);
+    let clock = show::bound(&Meter::Clock, &bound);
+    assert!(fits(&clock) && clock.contains(" 124.345 ms\n"), "{clock}");
+    let counted = show::bound(&Meter::Emulator("count".into()), &bound);
+    assert!(fits(&counted) && counted.contains(" 124344679\n"), "{counted}");
+    assert!(counted.contains(" 85817447  0.69\n") && counted.ends_with(" 63424556  0.51"));
+}
