@@ -43,7 +43,7 @@
 //! - [`Monitor`] keeps a machine's numbers with its memory and ledger, owned
 //!   or borrowed, and hands them to the services.
 //! - [`Call`] and [`Answer`] are the table of calls; [`Refusal`] the reasons.
-//! - [`Memory`], [`Ledger`] and [`Page`] read the lent words.
+//! - [`Memory`], [`Ledger`], [`Page`] and [`Slot`] read the lent words.
 //! - [`words`] is the three services as they are exported, words and numbers;
 //!   [`layout`] has the sizes and places.
 //!
@@ -52,14 +52,13 @@
 //! `Memory::zeros` and `Ledger::zeros`. Without it a box lends what it has:
 //!
 //! ```
-//! use monitor::layout::{FRAME_WORDS, HEADER_WORDS, RECORD_WORDS};
 //! use monitor::{Answer, Call, Key, Ledger, Machine, Memory, Monitor};
 //!
+//! const BOX: Machine = Machine::BOX_A;
 //! # fn main() -> Result<(), monitor::Unfit> {
-//! let mut memory = [0; 16 * FRAME_WORDS];
-//! let mut ledger = [0; HEADER_WORDS + 8 * RECORD_WORDS];
+//! let (mut memory, mut ledger) = ([0; BOX.memory_words()], [0; BOX.ledger_words()]);
 //! let (memory, ledger) = (Memory::over(&mut memory[..]), Ledger::over(&mut ledger[..]));
-//! let mut bench = Monitor::boot_over(Machine::BOX_A, memory, ledger, &Key::new([9; 8]))?;
+//! let mut bench = Monitor::boot_over(BOX, memory, ledger, &Key::new([9; 8]))?;
 //! let answers = bench.batch_of([Call::InitAddrSpace { space: 0, first: 1 }, Call::FreePages])?;
 //! assert_eq!(answers, [Answer::Done, Answer::Free { count: 6, lowest: 2 }]);
 //! # Ok(())

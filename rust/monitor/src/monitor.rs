@@ -40,7 +40,8 @@ pub struct Monitor<
 
 impl<M: AsMut<[u32]>, L: AsMut<[u32]>> Monitor<M, L> {
     /// A fresh ledger in these words: all pages free, secure frames zero,
-    /// other frames as they are.
+    /// other frames as they are. Where it says no, words that were moved in are
+    /// gone: borrow them, if they are wanted afterwards.
     pub fn boot_over(
         machine: Machine,
         mut memory: Memory<M>,
@@ -49,8 +50,9 @@ impl<M: AsMut<[u32]>, L: AsMut<[u32]>> Monitor<M, L> {
     ) -> Result<Monitor<M, L>, Unfit> {
         let (key, mem, led) = (key.words(), memory.words_mut(), ledger.words_mut());
         match words::boot(machine, key, mem, led) {
-            DONE => Ok(Monitor { machine, memory, ledger }),
-            _ => Err(Unfit::of_boot(machine, key, mem, led)),
+            DONE => Ok(Monitor::over(machine, memory, ledger)),
+            // It is proved to say 18 for numbers and lengths alone.
+            _ => Err(Unfit::of_boot(machine, key, mem, led).expect("numbers or lengths")),
         }
     }
 
@@ -59,8 +61,13 @@ impl<M: AsMut<[u32]>, L: AsMut<[u32]>> Monitor<M, L> {
         self.batch_of([call]).map(|[answer]| answer)
     }
 
-    /// As many calls as an array has, in order, without an allocator: their
-    /// records and the answers' stand on the stack meanwhile.
+    /// As many calls as an array has, in order, without an allocator.
+    ///
+    /// All of it stands on the stack: 428 bytes a call (the call, its record, the
+    /// answer's record, the answer), up to 600 where the caller keeps copies, and
+    /// about 1,400 where nothing is optimised; the service's own stack comes
+    /// besides. So 512 calls take 220 kB and more. Longer lists belong into words
+    /// that stand elsewhere, by [`Monitor::batch_words`].
     pub fn batch_of<const N: usize>(&mut self, calls: [Call; N]) -> Result<[Answer; N], Unfit> {
         let records = calls.map(|call| call.encode());
         let mut answers = [[0; RECORD_WORDS]; N];
@@ -74,7 +81,10 @@ impl<M: AsMut<[u32]>, L: AsMut<[u32]>> Monitor<M, L> {
         let ledger = self.ledger.words_mut();
         match words::batch(machine, memory, ledger, calls, answers) {
             DONE => Ok(()),
-            _ => Err(Unfit::of_batch(machine, memory, ledger, calls, answers)),
+            _ => {
+                let unfit = Unfit::of_batch(machine, memory, ledger, calls, answers);
+                Err(unfit.unwrap_or(Unfit::Acceptance))
+            }
         }
     }
 
@@ -90,18 +100,20 @@ impl<M: AsMut<[u32]>, L: AsMut<[u32]>> Monitor<M, L> {
 }
 
 impl<M: AsRef<[u32]>, L: AsRef<[u32]>> Monitor<M, L> {
-    /// Takes up words that are accepted as they are.
+    /// Takes up words that are accepted as they are. Where it says no, words that
+    /// were moved in are gone: borrow them, if they are wanted afterwards, by
+    /// `second::why` for example.
     pub fn resume(
         machine: Machine,
         memory: Memory<M>,
         ledger: Ledger<L>,
     ) -> Result<Monitor<M, L>, Unfit> {
-        let monitor = Monitor { machine, memory, ledger };
+        let monitor = Monitor::over(machine, memory, ledger);
         if monitor.accepted() {
             return Ok(monitor);
         }
         let (memory, ledger) = (monitor.memory.words(), monitor.ledger.words());
-        Err(Unfit::of_accepts(machine, memory, ledger))
+        Err(Unfit::of_accepts(machine, memory, ledger).unwrap_or(Unfit::Acceptance))
     }
 
     /// Whether the words are accepted as they are.
@@ -111,6 +123,30 @@ impl<M: AsRef<[u32]>, L: AsRef<[u32]>> Monitor<M, L> {
 }
 
 impl<M, L> Monitor<M, L> {
+    /// Over words as they stand, whatever they are: nothing is asked of them here,
+    /// and each batch judges them. For a host that borrows the words for one
+    /// service, so that between services they are lent to nobody:
+    ///
+    /// ```
+    /// use monitor::{Answer, Call, Key, Ledger, Machine, Memory, Monitor, Unfit};
+    ///
+    /// const BOX: Machine = Machine::BOX_A;
+    ///
+    /// fn trap(memory: &mut [u32], ledger: &mut [u32], call: Call) -> Result<Answer, Unfit> {
+    ///     Monitor::over(BOX, Memory::over(memory), Ledger::over(ledger)).call(call)
+    /// }
+    ///
+    /// let (mut memory, mut ledger) = ([0; BOX.memory_words()], [0; BOX.ledger_words()]);
+    /// assert_eq!(trap(&mut memory, &mut ledger, Call::FreePages), Err(Unfit::Acceptance));
+    /// let (mem, led) = (Memory::over(&mut memory[..]), Ledger::over(&mut ledger[..]));
+    /// Monitor::boot_over(BOX, mem, led, &Key::new([1; 8]))?;
+    /// assert_eq!(trap(&mut memory, &mut ledger, Call::GetPhysPages)?, Answer::Pages(8));
+    /// # Ok::<(), Unfit>(())
+    /// ```
+    pub const fn over(machine: Machine, memory: Memory<M>, ledger: Ledger<L>) -> Monitor<M, L> {
+        Monitor { machine, memory, ledger }
+    }
+
     /// The machine's numbers.
     pub fn machine(&self) -> Machine {
         self.machine

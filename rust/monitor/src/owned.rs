@@ -9,12 +9,7 @@ use types::{Answer, Call, Key, Ledger, Machine, Memory, Unfit};
 impl Monitor {
     /// A machine of its own words: memory zero, all pages free, this key.
     pub fn boot(machine: Machine, key: &Key) -> Result<Monitor, Unfit> {
-        // No memory is set aside for numbers that do not fit.
-        let (memory, ledger) = match machine.fits() {
-            true => (Memory::zeros(machine), Ledger::zeros(machine)),
-            false => (Memory::over(vec![]), Ledger::over(vec![])),
-        };
-        Monitor::boot_over(machine, memory, ledger, key)
+        Monitor::boot_over(machine, Memory::zeros(machine), Ledger::zeros(machine), key)
     }
 }
 

@@ -1,6 +1,6 @@
 //! The three services over plain words, as the library exports them. Nothing
 //! is asked of the words: what does not fit gets 18, or a no, and stays put.
-//! [`types::Unfit`] then has the reason.
+//! [`crate::Unfit`] then has the reason.
 //!
 //! ```
 //! use monitor::layout::{KEY_WORDS, RECORD_WORDS};

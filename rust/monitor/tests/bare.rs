@@ -2,7 +2,10 @@
 //! without.
 
 use monitor::layout::{FRAME_WORDS, HEADER_WORDS, RECORD_WORDS};
-use monitor::{Answer, Call, Key, Ledger, Machine, Mapping, Memory, Monitor, Refusal};
+use monitor::{
+    Answer, Call, Key, Ledger, List, Machine, Mapping, Memory, Monitor, Record, Refusal, Unfit,
+};
+use std::sync::Mutex;
 
 const KEY: Key = Key::new([1, 2, 3, 4, 5, 6, 7, 8]);
 static MEMORY: [u32; 16 * FRAME_WORDS] = [5; 16 * FRAME_WORDS];
@@ -49,6 +52,42 @@ fn over_borrowed_words() {
     shift(&mut memory[..], &mut ledger[..]);
     let (lent, kept) = (Memory::over(&memory[..]), Ledger::over(&ledger[..]));
     assert!(Monitor::resume(Machine::BOX_A, lent, kept).is_ok_and(|bench| bench.accepted()));
+}
+
+/// One call over words that are borrowed for it alone.
+fn trap(memory: &mut [u32], ledger: &mut [u32], call: Call) -> Result<Answer, Unfit> {
+    Monitor::over(Machine::BOX_A, Memory::over(memory), Ledger::over(ledger)).call(call)
+}
+
+#[test]
+fn borrowed_for_one_service() {
+    let (mut memory, mut ledger) = (MEMORY, LEDGER);
+    assert_eq!(trap(&mut memory, &mut ledger, Call::FreePages), Err(Unfit::Acceptance));
+    assert!(memory == MEMORY && ledger == LEDGER);
+    shift(&mut memory[..], &mut ledger[..]);
+    assert_eq!(trap(&mut memory, &mut ledger, Call::Exit { value: 3 }), Ok(Answer::Exited(3)));
+    let free = Answer::Free { count: 3, lowest: 5 };
+    assert_eq!(trap(&mut memory, &mut ledger, Call::FreePages), Ok(free));
+    let (found, needed) = (ledger.len() - 1, ledger.len());
+    let unfit = Unfit::Length { list: List::Ledger, found, needed };
+    assert_eq!(trap(&mut memory, &mut ledger[1..], Call::FreePages), Err(unfit));
+}
+
+/// A monitor that stands in a static, before anything has run.
+#[test]
+fn in_a_static() {
+    static BENCH: Mutex<Monitor<[u32; MEMORY.len()], [u32; LEDGER.len()]>> =
+        Mutex::new(Monitor::over(Machine::BOX_A, Memory::over(MEMORY), Ledger::over(LEDGER)));
+    let mut bench = BENCH.lock().expect("one user");
+    assert_eq!(bench.call(Call::FreePages), Err(Unfit::Acceptance));
+    assert_eq!((bench.machine(), bench.memory().words()), (Machine::BOX_A, &MEMORY[..]));
+}
+
+/// What the words about the stack of `batch_of` rest on.
+#[test]
+fn bytes_of_a_call() {
+    let sizes = [size_of::<Call>(), size_of::<Record>(), size_of::<Record>(), size_of::<Answer>()];
+    assert_eq!(sizes.iter().sum::<usize>(), 428);
 }
 
 /// A batch of records, into lent answers.

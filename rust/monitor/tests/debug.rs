@@ -1,6 +1,11 @@
-//! What is printed for debugging has no word of the key, nor of an enclave.
+//! What is printed for debugging of a key, a memory, a ledger and a monitor: no word
+//! of the key, none of the memory, and no register that a suspended thread left in
+//! the ledger; whatever the words are, and wherever they were lent from. A call, an
+//! answer and a page that are printed by themselves show all their words: registers
+//! of a thread and loaded words too.
 
-use monitor::{Answer, Call, Key, Machine, Mapping, Monitor, Registers};
+use monitor::layout::record_of;
+use monitor::{Answer, Call, Key, Machine, Mapping, Monitor, Page, Registers, Thread};
 use std::fmt::Debug;
 
 const KEY: [u32; 8] = [
@@ -29,11 +34,13 @@ fn bench() -> Monitor {
     bench
 }
 
-/// Nothing of it stands in what is printed, in any base or letters.
+/// Nothing of it stands in what is printed, in any base or letters; nor one less,
+/// as of the header's word 0.
 fn keeps_back(shown: &dyn Debug) {
     let texts = [format!("{shown:?}"), format!("{shown:#?}"), format!("{shown:x?}")];
     for text in texts.map(|text| text.to_lowercase()) {
-        for word in KEY.into_iter().chain(SECRETS) {
+        let secrets = KEY.into_iter().chain(SECRETS);
+        for word in secrets.flat_map(|word| [word, word - 1]) {
             assert!(!text.contains(&word.to_string()), "{text}");
             assert!(!text.contains(&format!("{word:x}")), "{text}");
         }
@@ -43,7 +50,7 @@ fn keeps_back(shown: &dyn Debug) {
 #[test]
 fn nothing_is_given_away() {
     let mut bench = bench();
-    assert_eq!(bench.ledger().key(), KEY.into());
+    assert_eq!(bench.ledger().key(), Key::new(KEY));
     keeps_back(&bench);
     keeps_back(bench.ledger());
     keeps_back(bench.memory());
@@ -60,6 +67,56 @@ fn whatever_the_words_are() {
         let mut ledger = vec![u32::MAX; words];
         ledger.iter_mut().skip(1).zip(KEY).for_each(|(word, key)| *word = key);
         keeps_back(&monitor::Ledger::over(ledger));
+    }
+}
+
+/// A ledger that is lent some words late, or early with the key before it.
+#[test]
+fn wherever_the_words_stand() {
+    let bench = bench();
+    let ledger = bench.ledger().words();
+    let before = [&KEY, ledger].concat();
+    for words in [ledger, &before] {
+        for late in 0..words.len() {
+            keeps_back(&monitor::Ledger::over(&words[late..]));
+        }
+    }
+    // A word of the key that could be a page's number is none of a thread.
+    let mut small = ledger.to_vec();
+    small[1..9].copy_from_slice(&[1, 2, 3, 4, 5, 6, 7, 8]);
+    for late in 1..9 {
+        let shown = format!("{:?}", monitor::Ledger::over(&small[late..]));
+        assert!(shown.starts_with("Ledger { pages: 7, running: out of order, "), "{shown}");
+    }
+}
+
+#[test]
+fn the_running_page_is_shown_where_it_is_a_thread() {
+    let mut ledger = monitor::Ledger::zeros(Machine::BOX_A);
+    let registers = Registers::default();
+    let thread = Page::Thread(Thread { owner: 1, entry: 0, suspended: false, registers });
+    for page in [0, 7] {
+        ledger.words_mut()[record_of(page)].copy_from_slice(&thread.encode());
+    }
+    let odd = "out of order";
+    for (word, shown) in [(0, "None"), (1, "Some(0)"), (2, odd), (8, "Some(7)"), (9, odd)] {
+        ledger.words_mut()[0] = word;
+        let shown = format!("Ledger {{ pages: 8, running: {shown}, key: Key(not shown), ");
+        assert!(format!("{ledger:?}").starts_with(&shown), "{ledger:?}");
+    }
+}
+
+/// What shows its words: it is said where it is declared.
+#[test]
+fn answers_and_calls_show_theirs() {
+    let registers = Registers { r: [SECRETS[1]; 16], flags: 0 };
+    for shown in [
+        format!("{:?}", Answer::Runs(registers)),
+        format!("{:?}", Call::Interrupt { registers }),
+        format!("{:?}", bench().ledger().page(4)),
+        format!("{:?}", Answer::Loaded(SECRETS[1])),
+    ] {
+        assert!(shown.contains(&SECRETS[1].to_string()), "{shown}");
     }
 }
 

@@ -1,6 +1,11 @@
-//! The Rust example of README.md: it stands here word for word, and runs.
+//! The Rust example of README.md: it stands here word for word, and runs. And the
+//! folders that README.md and docs/HOST.md name for Rust are there.
+
+use std::fs;
+use std::path::Path;
 
 const README: &str = include_str!("../../../README.md");
+const HOST: &str = include_str!("../../../docs/HOST.md");
 const HERE: &str = include_str!("readme.rs");
 
 #[rustfmt::skip]
@@ -31,4 +36,26 @@ fn it_runs_and_is_that_of_readme() {
         here.iter().map(|line| line.strip_prefix("    ").unwrap_or(line)).collect();
     assert!(here.len() > 5);
     assert_eq!(lines(README, "```rust", "```"), here);
+}
+
+#[test]
+fn the_dependency_is_this_crate() {
+    let root = Path::new(env!("CARGO_MANIFEST_DIR")).join("../..");
+    let (_, rest) = README.split_once("`monitor = { path = \"PATH/").expect("a dependency");
+    let (folder, _) = rest.split_once("\" }`").expect("its end");
+    let manifest = fs::read_to_string(root.join(folder).join("Cargo.toml")).expect("a crate");
+    assert!(manifest.contains("name = \"monitor\""), "{manifest}");
+}
+
+/// Cargo's commands are for `rust/`, from where `.ci` is one folder up.
+#[test]
+fn commands_are_given_where_they_work() {
+    for text in [README, HOST] {
+        for line in text.lines().filter(|line| line.contains(".ci/host cargo")) {
+            assert!(line.contains("../.ci/host cargo"), "{line}");
+        }
+        for line in text.lines().filter(|line| line.contains("cargo doc")) {
+            assert!(line.contains("in `rust/`"), "{line}");
+        }
+    }
 }

@@ -61,8 +61,40 @@ fn length_of_the_key() {
         let key = vec![0; found];
         assert_eq!(words::boot(A, &key, &mut memory, &mut ledger), words::UNFIT);
         let unfit = Unfit::of_boot(A, &key, &memory, &ledger);
-        assert_eq!(unfit, length(List::Key, found, KEY_WORDS));
+        assert_eq!(unfit, Some(length(List::Key, found, KEY_WORDS)));
     }
+}
+
+/// Boot says 18 exactly where something is named.
+#[test]
+fn boot_has_no_other_reason() {
+    let near = [0, 1, 2, 3, u32::MAX];
+    let machine = |number: usize| {
+        let [frames, secure, pages, monitor, monitors] =
+            [0, 1, 2, 3, 4].map(|place| near[number / near.len().pow(place) % near.len()]);
+        Machine { frames, secure, pages, monitor, monitors }
+    };
+    let mut done = 0;
+    for machine in (0..near.len().pow(5)).map(machine) {
+        let (mut memory, mut ledger) = (Memory::zeros(machine), Ledger::zeros(machine));
+        let named = Unfit::of_boot(machine, KEY.words(), memory.words(), ledger.words());
+        let said = words::boot(machine, KEY.words(), memory.words_mut(), ledger.words_mut());
+        assert_eq!(said == words::DONE, named.is_none(), "{machine:?}");
+        done += usize::from(named.is_none());
+    }
+    assert_eq!(done, 2 + 10, "on two frames and on three");
+}
+
+/// Where numbers and lengths fit there is no other reason to be named, of any
+/// service: what is left is acceptance's, and boot asks for none.
+#[test]
+fn nothing_is_named_where_all_fits() {
+    let (mut memory, mut ledger) = (vec![9; A.memory_words()], vec![9; A.ledger_words()]);
+    assert_eq!(Unfit::of_boot(A, KEY.words(), &memory, &ledger), None);
+    assert_eq!(Unfit::of_accepts(A, &memory, &ledger), None);
+    assert_eq!(Unfit::of_batch(A, &memory, &ledger, &[], &[]), None);
+    assert!(!words::accepts(A, &memory, &ledger));
+    assert_eq!(words::boot(A, KEY.words(), &mut memory, &mut ledger), words::DONE);
 }
 
 #[test]
@@ -99,7 +131,13 @@ fn acceptance_comes_last() {
     let unfit = bench.batch_words(&[0], &mut []);
     assert_eq!(unfit, Err(length(List::Calls, 1, 0)));
     let (memory, ledger) = bench.into_parts();
-    assert_eq!(Monitor::resume(A, memory, ledger), Err(Unfit::Acceptance));
+    let (lent, kept) = (Memory::over(memory.words()), Ledger::over(ledger.words()));
+    assert_eq!(Monitor::resume(A, lent, kept).err(), Some(Unfit::Acceptance));
+    // They were borrowed, so they can be asked why.
+    let Machine { frames, secure, pages, monitor, monitors } = A;
+    let machine = second::Machine { frames, secure, pages, monitor, monitors };
+    let broken = second::why(machine, memory.words(), ledger.words()).expect("not accepted");
+    assert_eq!(broken.rule, second::Rule::A4);
 }
 
 #[test]

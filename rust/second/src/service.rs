@@ -32,7 +32,8 @@ pub fn accepts(m: Machine, mem: &[u32], led: &[u32]) -> bool {
 
 /// Why acceptance says no: the first demand of docs/RULES.md that is broken,
 /// in the order A1 to A19, then of pages, then of words. None where it says
-/// yes. Nothing is proved of it: it is advice.
+/// yes. Nothing is proved of it: it is advice. Its text may show words of the
+/// state, secret ones too: see [`Broken`].
 pub fn why(m: Machine, mem: &[u32], led: &[u32]) -> Option<Broken> {
     accepted(m, mem, led).err()
 }

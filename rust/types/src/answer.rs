@@ -1,4 +1,4 @@
-use crate::call::Call;
+use crate::call::{Call, Row};
 use crate::code::{DONE, FAULTED, INTERRUPTED};
 use crate::layout::{KEY_WORDS, REGISTERS};
 use crate::record::{part, record_of, Record};
@@ -9,9 +9,14 @@ use core::fmt;
 
 /// The answer of a call.
 ///
+/// Printed for debugging it shows all of its values: those of Enter and Resume are
+/// the thread's registers, that of Load a word of an enclave's page, that of Attest
+/// a MAC. None of them is for a log that others read.
+///
 /// ```
-/// use types::layout::RECORD_WORDS;
-/// use types::{Answer, Call, Refusal};
+/// # extern crate types as monitor;
+/// use monitor::layout::RECORD_WORDS;
+/// use monitor::{Answer, Call, Refusal};
 ///
 /// let mut record = [0; RECORD_WORDS];
 /// record[0] = 22;
@@ -56,8 +61,9 @@ impl Answer {
     /// The answer that a record gives to a call; none where the record is not
     /// an answer to such a call.
     pub fn decode(call: &Call, record: &Record) -> Option<Answer> {
+        Row::of(call.number()).filter(|row| row.answers(record[0]))?;
         let answer = match record[0] {
-            DONE => Answer::done(call, record)?,
+            DONE => Answer::done(call, record),
             INTERRUPTED => Answer::Interrupted,
             FAULTED => Answer::Faulted,
             code => Answer::Refused(Refusal::from_code(code)?),
@@ -66,8 +72,8 @@ impl Answer {
     }
 
     /// The answer of a record that starts with 0, by the call's values.
-    fn done(call: &Call, record: &Record) -> Option<Answer> {
-        Some(match call {
+    fn done(call: &Call, record: &Record) -> Answer {
+        match call {
             Call::GetPhysPages => Answer::Pages(record[1]),
             Call::FreePages => Answer::Free { count: record[1], lowest: record[2] },
             Call::Enter { .. } | Call::Resume { .. } => {
@@ -78,9 +84,8 @@ impl Answer {
             Call::Verify { .. } => Answer::Verified(record[1] == 1),
             Call::Exit { .. } => Answer::Exited(record[1]),
             Call::Load { .. } => Answer::Loaded(record[1]),
-            Call::Interrupt { .. } | Call::Fault => return None,
             _ => Answer::Done,
-        })
+        }
     }
 
     /// The number in word 0 of the record.

@@ -1,4 +1,4 @@
-use crate::key::Key;
+use crate::key::{Key, NOT_SHOWN};
 use crate::layout::{
     record_of, word, HEADER_WORDS, KEY_START, MAP_START, MAP_WORDS, RECORD_WORDS, RUNNING,
 };
@@ -10,11 +10,13 @@ use core::fmt;
 /// [`crate::Memory`].
 ///
 /// The header holds the key, and a suspended thread's record its registers.
-/// Printed for debugging it shows neither, but counts the pages by type.
+/// Printed for debugging it shows neither, but counts the pages by type; of the
+/// header it shows the running page, where that is a thread's.
 ///
 /// ```
-/// use types::layout::record_of;
-/// use types::{Ledger, Machine, Page};
+/// # extern crate types as monitor;
+/// use monitor::layout::record_of;
+/// use monitor::{Ledger, Machine, Page};
 ///
 /// let mut ledger = Ledger::zeros(Machine::BOX_A);
 /// let spare = Page::Spare { owner: 4 };
@@ -33,7 +35,7 @@ pub struct Ledger<
 
 impl<W> Ledger<W> {
     /// A ledger over these words.
-    pub fn over(words: W) -> Ledger<W> {
+    pub const fn over(words: W) -> Ledger<W> {
         Ledger(words)
     }
 
@@ -60,12 +62,13 @@ impl<W: AsRef<[u32]>> Ledger<W> {
         self.words().get(word).copied().unwrap_or(0)
     }
 
-    /// The running thread's page.
+    /// The running thread's page, as header word 0 names it: any number, in words
+    /// that are not accepted.
     pub fn running(&self) -> Option<u32> {
         self.header(RUNNING).checked_sub(1)
     }
 
-    /// The key for attestations.
+    /// The key for attestations: a copy more of it.
     pub fn key(&self) -> Key {
         Key::new(core::array::from_fn(|place| self.header(KEY_START + place)))
     }
@@ -91,6 +94,10 @@ impl<W: AsRef<[u32]>> Ledger<W> {
         Page::decode(&self.record(page)?)
     }
 
+    fn is_thread(&self, page: u32) -> bool {
+        matches!(self.page(page), Some(Page::Thread(_)))
+    }
+
     /// All pages in order, as far as their records are in order.
     pub fn pages(&self) -> impl Iterator<Item = Option<Page>> + '_ {
         (0..self.page_count()).map(|page| self.page(page))
@@ -101,10 +108,23 @@ impl<W: AsRef<[u32]>> fmt::Debug for Ledger<W> {
     fn fmt(&self, out: &mut fmt::Formatter) -> fmt::Result {
         out.debug_struct("Ledger")
             .field("pages", &self.page_count())
-            .field("running", &self.running())
-            .field("key", &self.key())
+            .field("running", &Running(self))
+            .field("key", &format_args!("{NOT_SHOWN}"))
             .field("types", &Types(self))
             .finish()
+    }
+}
+
+/// The running thread's page. What names no thread is not shown: in words that are
+/// lent from a wrong place on it may be one of the key.
+struct Running<'a, W>(&'a Ledger<W>);
+
+impl<W: AsRef<[u32]>> fmt::Debug for Running<'_, W> {
+    fn fmt(&self, out: &mut fmt::Formatter) -> fmt::Result {
+        match self.0.running() {
+            Some(page) if !self.0.is_thread(page) => out.write_str("out of order"),
+            running => running.fmt(out),
+        }
     }
 }
 

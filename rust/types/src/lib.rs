@@ -2,7 +2,8 @@
 //! crate links nothing; `monitor` has the services over these words.
 //!
 //! - [`Machine`] is the box's numbers, [`Memory`] and [`Ledger`] what is lent,
-//!   [`Page`] a record of the ledger, [`Mapping`] a mapping word.
+//!   [`Page`] a record of the ledger, [`Mapping`] a mapping word, [`Slot`] a word
+//!   of a table, [`Rights`] what either allows.
 //! - [`Call`] and [`Answer`] are the table of calls, [`Row`] a row of it;
 //!   [`Refusal`] is why a call is refused, [`Unfit`] why a service says 18.
 //! - [`layout`] has the sizes and places, [`code`] the numbers of answers that
@@ -31,7 +32,9 @@ mod page;
 mod record;
 mod refusal;
 mod registers;
+mod rights;
 mod rule;
+mod slot;
 mod unfit;
 mod values;
 
@@ -46,6 +49,8 @@ pub use page::{Page, Space, State, Thread};
 pub use record::Record;
 pub use refusal::Refusal;
 pub use registers::Registers;
+pub use rights::Rights;
 pub use rule::Rule;
+pub use slot::Slot;
 pub use unfit::{List, Unfit};
 pub use values::Values;

@@ -4,7 +4,8 @@ use crate::rule::Rule;
 /// The box's numbers F, s, n, m and k: which frames there are, and whose.
 ///
 /// ```
-/// use types::{Machine, Rule};
+/// # extern crate types as monitor;
+/// use monitor::{Machine, Rule};
 ///
 /// let bench = Machine::BOX_A;
 /// assert!(bench.fits());
@@ -15,6 +16,10 @@ use crate::rule::Rule;
 /// assert!(!small.fits());
 /// assert_eq!(small.broken_rule(), Some(Rule::SecureBelow));
 /// assert_eq!(Rule::SecureBelow.to_string(), "secure frames s to s+n-1 below F");
+/// // A box whose words are set aside when it is built:
+/// const BOX: Machine = Machine { frames: 40, secure: 8, pages: 24, monitor: 2, monitors: 1 };
+/// const _: () = assert!(BOX.fits());
+/// static MEMORY: [u32; BOX.memory_words()] = [0; BOX.memory_words()];
 /// ```
 #[derive(Clone, Copy, Debug, PartialEq, Eq, Hash)]
 pub struct Machine {
@@ -33,13 +38,13 @@ pub struct Machine {
 
 /// Whether this is one of `count` numbers from `first` on. The sum may wrap
 /// in 32 bits.
-fn among(first: u32, count: u32, number: u32) -> bool {
-    number.checked_sub(first).is_some_and(|place| place < count)
+const fn among(first: u32, count: u32, number: u32) -> bool {
+    number >= first && number - first < count
 }
 
 /// The end of `count` frames from `first` on, not wrapped.
-fn end(first: u32, count: u32) -> u64 {
-    u64::from(first) + u64::from(count)
+const fn end(first: u32, count: u32) -> u64 {
+    first as u64 + count as u64
 }
 
 impl Machine {
@@ -47,46 +52,54 @@ impl Machine {
     pub const BOX_A: Machine = Machine { frames: 16, secure: 6, pages: 8, monitor: 0, monitors: 2 };
 
     /// Whether these numbers keep the rules of a box.
-    pub fn fits(&self) -> bool {
+    pub const fn fits(&self) -> bool {
         self.broken_rule().is_none()
     }
 
     /// The first rule of a box that these numbers break.
-    pub fn broken_rule(&self) -> Option<Rule> {
+    pub const fn broken_rule(&self) -> Option<Rule> {
         let (secure, monitor) = (end(self.secure, self.pages), end(self.monitor, self.monitors));
-        let below = |end: u64| end <= u64::from(self.frames);
-        let apart = secure <= u64::from(self.monitor) || monitor <= u64::from(self.secure);
-        let kept = [
-            (Rule::Frames, (1..=MOST_FRAMES).contains(&self.frames)),
-            (Rule::Pages, (1..=MOST_PAGES).contains(&self.pages)),
-            (Rule::Monitors, self.monitors >= 1),
-            (Rule::SecureBelow, below(secure)),
-            (Rule::MonitorBelow, below(monitor)),
-            (Rule::Apart, apart),
-        ];
-        kept.into_iter().find(|(_, kept)| !kept).map(|(rule, _)| rule)
+        Some(if self.frames < 1 || self.frames > MOST_FRAMES {
+            Rule::Frames
+        } else if self.pages < 1 || self.pages > MOST_PAGES {
+            Rule::Pages
+        } else if self.monitors < 1 {
+            Rule::Monitors
+        } else if secure > self.frames as u64 {
+            Rule::SecureBelow
+        } else if monitor > self.frames as u64 {
+            Rule::MonitorBelow
+        } else if secure > self.monitor as u64 && monitor > self.secure as u64 {
+            Rule::Apart
+        } else {
+            return None;
+        })
     }
 
     /// Whether a frame is below F and neither secure nor the monitor's.
-    pub fn is_insecure(&self, frame: u32) -> bool {
+    pub const fn is_insecure(&self, frame: u32) -> bool {
         frame < self.frames
             && !among(self.secure, self.pages, frame)
             && !among(self.monitor, self.monitors, frame)
     }
 
     /// The secure page that this frame is.
-    pub fn page_in(&self, frame: u32) -> Option<u32> {
-        among(self.secure, self.pages, frame).then(|| frame - self.secure)
+    pub const fn page_in(&self, frame: u32) -> Option<u32> {
+        if among(self.secure, self.pages, frame) {
+            Some(frame - self.secure)
+        } else {
+            None
+        }
     }
 
     /// The words of memory that this machine lends.
-    pub fn memory_words(&self) -> usize {
+    pub const fn memory_words(&self) -> usize {
         (self.frames as usize).saturating_mul(FRAME_WORDS)
     }
 
     /// The words of ledger that this machine lends: the header, and a record a
     /// page.
-    pub fn ledger_words(&self) -> usize {
+    pub const fn ledger_words(&self) -> usize {
         (self.pages as usize).saturating_mul(RECORD_WORDS).saturating_add(HEADER_WORDS)
     }
 }

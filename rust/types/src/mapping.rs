@@ -1,10 +1,7 @@
 use crate::layout::{FRAME_WORDS, MOST_TABLES};
+use crate::rights::{Rights, EXECUTE, READ, RIGHTS, WRITE};
 use core::fmt;
 
-const READ: u32 = 1;
-const WRITE: u32 = 2;
-const EXECUTE: u32 = 4;
-const RIGHTS: u32 = READ | WRITE | EXECUTE;
 /// Where an address has its index, and its slot.
 const INDEX_SHIFT: u32 = 22;
 const PAGE_SHIFT: u32 = 12;
@@ -19,7 +16,8 @@ const PAGE_ADDRESS: u32 = (MOST_TABLES << INDEX_SHIFT) - (1 << PAGE_SHIFT);
 /// Any word can be one; [`Mapping::is_well_formed`] says whether calls take it.
 ///
 /// ```
-/// use types::Mapping;
+/// # extern crate types as monitor;
+/// use monitor::Mapping;
 ///
 /// let map = Mapping::new(0, 1).unwrap().writable();
 /// assert_eq!(map.word(), 4099);
@@ -28,7 +26,7 @@ const PAGE_ADDRESS: u32 = (MOST_TABLES << INDEX_SHIFT) - (1 << PAGE_SHIFT);
 /// assert_eq!((Mapping::at(4100), Mapping::at(1 << 30)), (None, None));
 /// assert_eq!((map.index(), map.slot(), map.address()), (0, 1, 4096));
 /// assert!(map.is_well_formed() && !Mapping::from_word(4098).is_well_formed());
-/// assert_eq!(map.to_string(), "4096 rw-");
+/// assert_eq!((map.to_string(), map.rights().bits()), ("4096 rw-".to_string(), 3));
 /// ```
 #[derive(Clone, Copy, Debug, PartialEq, Eq, Hash)]
 pub struct Mapping(u32);
@@ -89,19 +87,24 @@ impl Mapping {
         self.0 & PAGE_ADDRESS
     }
 
+    /// The rights, bits 0-2.
+    pub const fn rights(self) -> Rights {
+        Rights::of(self.0)
+    }
+
     /// Whether the write right is in it.
     pub const fn writes(self) -> bool {
-        self.0 & WRITE != 0
+        self.rights().writes()
     }
 
     /// Whether the execute right is in it.
     pub const fn executes(self) -> bool {
-        self.0 & EXECUTE != 0
+        self.rights().executes()
     }
 
     /// Whether read is set, and no bit but those of address and rights.
     pub const fn is_well_formed(self) -> bool {
-        self.0 & READ != 0 && self.0 & !(PAGE_ADDRESS | RIGHTS) == 0
+        self.rights().reads() && self.0 & !(PAGE_ADDRESS | RIGHTS) == 0
     }
 }
 
@@ -111,8 +114,6 @@ impl fmt::Display for Mapping {
         if !self.is_well_formed() {
             return write!(out, "ill-formed {}", self.0);
         }
-        let write = if self.writes() { 'w' } else { '-' };
-        let execute = if self.executes() { 'x' } else { '-' };
-        write!(out, "{} r{write}{execute}", self.address())
+        write!(out, "{} {}", self.address(), self.rights())
     }
 }

@@ -8,8 +8,9 @@ use core::fmt;
 /// it shows how many words it has, and none of them.
 ///
 /// ```
-/// use types::layout::FRAME_WORDS;
-/// use types::{Machine, Memory};
+/// # extern crate types as monitor;
+/// use monitor::layout::FRAME_WORDS;
+/// use monitor::{Machine, Memory};
 ///
 /// let mut memory = Memory::zeros(Machine::BOX_A);
 /// memory.frame_mut(5).unwrap()[3] = 9;
@@ -33,7 +34,7 @@ fn range_of(frame: u32) -> core::ops::Range<usize> {
 
 impl<W> Memory<W> {
     /// A memory over these words.
-    pub fn over(words: W) -> Memory<W> {
+    pub const fn over(words: W) -> Memory<W> {
         Memory(words)
     }
 

@@ -47,7 +47,8 @@ pub struct Thread {
 /// A secure page by its type.
 ///
 /// ```
-/// use types::{Mapping, Page};
+/// # extern crate types as monitor;
+/// use monitor::{Mapping, Page};
 ///
 /// let page = Page::Data { owner: 0, map: Mapping::from_word(4099) };
 /// assert_eq!(page.encode()[..4], [5, 0, 4099, 0]);

@@ -3,7 +3,8 @@ use core::fmt;
 /// Why a call was refused. A refused call changes nothing.
 ///
 /// ```
-/// use types::Refusal;
+/// # extern crate types as monitor;
+/// use monitor::Refusal;
 ///
 /// assert_eq!(Refusal::from_code(7), Some(Refusal::SlotTaken));
 /// assert_eq!(Refusal::SlotTaken.code(), 7);

@@ -1,6 +1,7 @@
 use crate::layout::{REGISTERS, SAVED_WORDS};
 
-/// r0-r15 and the flags.
+/// r0-r15 and the flags. They are an enclave's; printed for debugging, in a call,
+/// an answer or a page too, they are shown.
 #[derive(Clone, Copy, Debug, Default, PartialEq, Eq, Hash)]
 pub struct Registers {
     /// r0 to r15; a run starts at r15.

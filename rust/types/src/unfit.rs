@@ -22,15 +22,16 @@ pub enum List {
 /// lengths, then what is left. It is advice, and is not proved.
 ///
 /// ```
-/// use types::{List, Machine, Rule, Unfit};
+/// # extern crate types as monitor;
+/// use monitor::{List, Machine, Rule, Unfit};
 ///
 /// let (memory, ledger) = ([0; 5], [0; 288]);
-/// let unfit = Unfit::of_accepts(Machine::BOX_A, &memory, &ledger);
+/// let unfit = Unfit::of_accepts(Machine::BOX_A, &memory, &ledger).unwrap();
 /// assert_eq!(unfit, Unfit::Length { list: List::Memory, found: 5, needed: 16384 });
 /// assert_eq!(unfit.to_string(), "the memory: expected 16384 words, found 5 (18)");
 ///
 /// let machine = Machine { monitors: 0, ..Machine::BOX_A };
-/// let unfit = Unfit::of_accepts(machine, &memory, &ledger);
+/// let unfit = Unfit::of_accepts(machine, &memory, &ledger).unwrap();
 /// assert_eq!(unfit, Unfit::Numbers(Rule::Monitors));
 /// assert_eq!(unfit.to_string(), "the box's numbers: expected k of at least 1 (18)");
 /// ```
@@ -42,50 +43,46 @@ pub enum Unfit {
     /// needed is the nearest length below that is taken.
     #[allow(missing_docs)] // the fields are said above
     Length { list: List, found: usize, needed: usize },
-    /// Numbers and lengths fit, and acceptance says no.
+    /// Numbers and lengths fit, and acceptance says no; never boot's reason. Why it
+    /// does, `second::why` says as advice, and `./box why` of a state in files.
     Acceptance,
 }
 
-/// The arguments are those of the services in words. Asked where a service has
-/// said 18 or no, each has the reason.
+/// The arguments are those of the services in words. Each says what does not fit of
+/// the numbers and lengths, and nothing where all of them fit.
 impl Unfit {
     /// What 18 means, whichever reason it has.
     pub const IN_WORDS: &str = "numbers or lengths do not fit, or acceptance says no";
 
-    /// Why acceptance says no.
-    pub fn of_accepts(machine: Machine, memory: &[u32], ledger: &[u32]) -> Unfit {
-        of_lent(machine, memory, ledger).unwrap_or(Unfit::Acceptance)
+    /// What does not fit of what acceptance is lent. Nothing, and it says no: then it
+    /// is [`Unfit::Acceptance`].
+    pub fn of_accepts(machine: Machine, memory: &[u32], ledger: &[u32]) -> Option<Unfit> {
+        let numbers = machine.broken_rule().map(Unfit::Numbers);
+        numbers
+            .or_else(|| length(List::Memory, memory, machine.memory_words()))
+            .or_else(|| length(List::Ledger, ledger, machine.ledger_words()))
     }
 
-    /// Why boot says 18, which is never for acceptance's sake.
-    pub fn of_boot(machine: Machine, key: &[u32], memory: &[u32], ledger: &[u32]) -> Unfit {
-        of_lent(machine, memory, ledger)
-            .or_else(|| length(List::Key, key, KEY_WORDS))
-            .unwrap_or(Unfit::Acceptance)
+    /// What does not fit of what boot is lent, exactly where it says 18.
+    pub fn of_boot(machine: Machine, key: &[u32], memory: &[u32], ledger: &[u32]) -> Option<Unfit> {
+        let lent = Unfit::of_accepts(machine, memory, ledger);
+        lent.or_else(|| length(List::Key, key, KEY_WORDS))
     }
 
-    /// Why a batch gets 18.
+    /// What does not fit of what a batch is lent. Nothing, and it gets 18: then it is
+    /// [`Unfit::Acceptance`].
     pub fn of_batch(
         machine: Machine,
         memory: &[u32],
         ledger: &[u32],
         calls: &[u32],
         answers: &[u32],
-    ) -> Unfit {
+    ) -> Option<Unfit> {
         let whole = (calls.len() / RECORD_WORDS).min(MOST_CALLS) * RECORD_WORDS;
-        of_lent(machine, memory, ledger)
+        Unfit::of_accepts(machine, memory, ledger)
             .or_else(|| length(List::Calls, calls, whole))
             .or_else(|| length(List::Answers, answers, calls.len()))
-            .unwrap_or(Unfit::Acceptance)
     }
-}
-
-/// What does not fit of the numbers and of what every service is lent.
-fn of_lent(machine: Machine, memory: &[u32], ledger: &[u32]) -> Option<Unfit> {
-    let numbers = machine.broken_rule().map(Unfit::Numbers);
-    numbers
-        .or_else(|| length(List::Memory, memory, machine.memory_words()))
-        .or_else(|| length(List::Ledger, ledger, machine.ledger_words()))
 }
 
 fn length(list: List, words: &[u32], needed: usize) -> Option<Unfit> {

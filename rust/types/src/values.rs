@@ -5,7 +5,8 @@ use core::{array, fmt, iter, ops};
 /// read as a slice.
 ///
 /// ```
-/// use types::Answer;
+/// # extern crate types as monitor;
+/// use monitor::Answer;
 ///
 /// let values = Answer::Free { count: 3, lowest: 5 }.values();
 /// assert_eq!(values[..], [3, 5]);

@@ -2,7 +2,7 @@
 
 use second::random::Rng;
 use types::layout::{FRAME_WORDS, MOST_FRAMES, MOST_PAGES, MOST_TABLES};
-use types::{Machine, Mapping, Rule};
+use types::{Machine, Mapping, Rights, Rule, Slot};
 
 #[test]
 fn mappings_answer_for_themselves() {
@@ -13,6 +13,8 @@ fn mappings_answer_for_themselves() {
         assert_eq!(ours.is_well_formed(), second.well_formed());
         assert_eq!((ours.index(), ours.slot()), (second.index() as u32, second.slot() as u32));
         assert_eq!((ours.address(), ours.executes()), (second.address(), second.executes()));
+        assert_eq!(ours.rights().bits(), second.rights());
+        assert_eq!((ours.rights(), ours.writes()), (Rights::of(word), ours.rights().writes()));
         if ours.is_well_formed() {
             let mut again = Mapping::new(ours.index(), ours.slot()).expect("in range");
             assert_eq!(Mapping::at(ours.address()), Some(again));
@@ -20,6 +22,31 @@ fn mappings_answer_for_themselves() {
             again = if ours.executes() { again.executable() } else { again };
             assert_eq!(again, ours);
         }
+    }
+}
+
+/// A slot is read exactly where the second program reads a leaf.
+#[test]
+fn slots_answer_for_themselves() {
+    let mut rng = Rng::new(5);
+    let drawn: Vec<u32> = (0..20_000).map(|_| rng.word() & rng.pick(&[u32::MAX, !0xff8])).collect();
+    let mut read = 0;
+    for word in drawn.into_iter().chain(0..0x2010).chain([u32::MAX, !0xff8, 1 << 31 | 1]) {
+        let (ours, second) = (Slot::decode(word), second::mapping::Leaf::read(word));
+        let said = ours.map(|slot| (slot.frame(), slot.rights().bits()));
+        assert_eq!(said, second.map(|leaf| (leaf.frame, leaf.rights)), "{word}");
+        assert!(ours.iter().all(|slot| slot.encode() == word && slot.rights().reads()));
+        read += usize::from(ours.is_some());
+    }
+    assert!(read > 4_000, "{read}");
+}
+
+#[test]
+fn rights_in_letters() {
+    let letters = ["---", "r--", "-w-", "rw-", "--x", "r-x", "-wx", "rwx"];
+    for (bits, letters) in (0..).zip(letters) {
+        assert_eq!(Rights::of(bits | 8).to_string(), letters);
+        assert_eq!(Rights::of(bits | 1 << 31).bits(), bits);
     }
 }
 

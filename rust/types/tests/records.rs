@@ -3,7 +3,7 @@
 use second::calls::{by_number, CALLS};
 use second::random::Rng;
 use types::layout::RECORD_WORDS;
-use types::{Answer, Call, Page, Record, Refusal, Registers};
+use types::{Answer, Call, Page, Record, Refusal, Registers, Row};
 
 fn record(rng: &mut Rng, words: usize) -> Record {
     std::array::from_fn(|place| if place < words { rng.word() } else { 0 })
@@ -79,9 +79,26 @@ fn answers_there_and_back() {
             assert_eq!(Answer::decode(&call, &answer.encode()), Some(answer));
         }
     }
-    for refusal in Refusal::ALL {
-        let answer = Answer::Refused(refusal);
-        assert_eq!(Answer::decode(&Call::FreePages, &answer.encode()), Some(answer));
+}
+
+/// A record of this word and zeros.
+fn alone(word: u32) -> Record {
+    std::array::from_fn(|place| if place == 0 { word } else { 0 })
+}
+
+/// A call is answered with the codes of its row and no other.
+#[test]
+fn an_answer_is_of_the_calls_row() {
+    for row in Call::ROWS {
+        let call = Call::decode(&alone(row.number)).expect("a call");
+        let refusals = Refusal::FIRST.iter().chain(row.refusals).map(|refusal| refusal.code());
+        let codes: Vec<u32> = refusals.chain(row.outcomes.iter().copied()).collect();
+        for code in (0..100).chain([u32::MAX]) {
+            let answer = Answer::decode(&call, &alone(code));
+            assert_eq!(answer.is_some(), codes.contains(&code), "{call} {code}");
+            assert!(answer.iter().all(|answer| answer.encode() == alone(code)));
+            assert_eq!(Row::of(row.number).map(|row| row.answers(code)), Some(answer.is_some()));
+        }
     }
 }
 
@@ -92,7 +109,10 @@ fn strange_answers_are_none() {
     for (call, words) in [
         (Call::FreePages, vec![18]),
         (Call::FreePages, vec![20]),
-        (Call::FreePages, vec![2, 1]),
+        (Call::FreePages, vec![10]),
+        (Call::FreePages, vec![32]),
+        (Call::FreePages, vec![33]),
+        (Call::FreePages, vec![15, 1]),
         (Call::FreePages, vec![0, 1, 2, 3]),
         (Call::Fault, vec![0]),
         (Call::Fault, vec![33, 1]),

@@ -13,6 +13,19 @@ pub unsafe extern "C" fn memcpy(to: *mut u8, from: *const u8, count: usize) -> *
 /// # Safety
 /// As in C.
 #[no_mangle]
+pub unsafe extern "C" fn memmove(to: *mut u8, from: *const u8, count: usize) -> *mut u8 {
+    // Only where it starts within what is moved would a copy write what it has yet to read.
+    if (to as usize).wrapping_sub(from as usize) >= count {
+        return memcpy(to, from, count);
+    }
+    let (last, from) = (to.add(count - 1), from.add(count - 1));
+    asm!("std", "rep movsb", "cld", inout("rcx") count => _, inout("rdi") last => _, inout("rsi") from => _);
+    to
+}
+
+/// # Safety
+/// As in C.
+#[no_mangle]
 pub unsafe extern "C" fn memset(to: *mut u8, byte: i32, count: usize) -> *mut u8 {
     asm!("rep stosb", inout("rcx") count => _, inout("rdi") to => _, in("al") byte as u8);
     to

@@ -60,7 +60,9 @@ pub enum Place {
 }
 
 /// The first demand that is broken. As text it is two lines: the demand, and
-/// the fault.
+/// the fault. What was found stands in it, in the text and printed for debugging:
+/// that may be a word of the key, of a register or of an enclave's page. So it is
+/// for those who may see the state.
 #[derive(Clone, Debug, PartialEq, Eq)]
 pub struct Broken {
     /// The demand.

@@ -2,7 +2,7 @@
 //! owner.
 
 use super::broken::{a_page, Broken, Rule};
-use super::{Lent, Verdict};
+use super::lent::{Lent, Verdict};
 use crate::demand::demand;
 use crate::layout::{free_bit, kind, state, word, HEADER_WORDS, MAP_END, MOST_PAGES, RUNNING};
 

@@ -1,8 +1,8 @@
 //! A14 to A19: the tables of the spaces that are building or final.
 
 use super::broken::{Broken, Place, Rule};
+use super::lent::Verdict;
 use super::pages::Pages;
-use super::Verdict;
 use crate::demand::demand;
 use crate::layout::{word, MOST_TABLES};
 use crate::ledger::{Page, Space, State};

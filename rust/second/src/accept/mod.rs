@@ -8,6 +8,7 @@
 
 mod broken;
 mod header;
+mod lent;
 mod links;
 mod pages;
 mod records;
@@ -15,13 +16,10 @@ mod records;
 pub use broken::{Broken, Place, Rule};
 
 use crate::demand::demand;
-use crate::layout::record_of;
 use crate::ledger::Ledger;
 use crate::machine::Machine;
+use lent::Lent;
 use pages::Pages;
-
-/// Nothing, or the first demand that is broken.
-type Verdict = Result<(), Broken>;
 
 /// The typed ledger, if the lent words are accepted.
 pub fn accepted(m: Machine, memory: &[u32], ledger: &[u32]) -> Result<Ledger, Broken> {
@@ -49,29 +47,4 @@ pub fn fitting(m: Machine, memory: &[u32], ledger: &[u32]) -> Result<(), Broken>
         })
     };
     m.fitting().and_then(|()| lengths()).map_err(Broken::lent)
-}
-
-/// The lent words, of which A1 holds.
-#[derive(Clone, Copy)]
-struct Lent<'a> {
-    machine: Machine,
-    memory: &'a [u32],
-    ledger: &'a [u32],
-}
-
-impl<'a> Lent<'a> {
-    /// All pages, in order.
-    fn pages(&self) -> std::ops::Range<usize> {
-        0..self.machine.page_count()
-    }
-
-    /// The record of a page.
-    fn record(&self, page: usize) -> &'a [u32] {
-        &self.ledger[record_of(page)]
-    }
-
-    /// The words of a page's frame.
-    fn frame(&self, page: usize) -> &'a [u32] {
-        &self.memory[self.machine.words_of(page)]
-    }
 }

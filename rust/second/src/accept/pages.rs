@@ -1,7 +1,7 @@
 //! A9 to A13: zero pages, and the counts of the spaces, over typed pages.
 
 use super::broken::{a_page, Broken, Place, Rule};
-use super::{Lent, Verdict};
+use super::lent::{Lent, Verdict};
 use crate::demand::demand;
 use crate::layout::{word, DATA_BLOCKS};
 use crate::ledger::{Ledger, Page, Space, State};

@@ -1,7 +1,7 @@
 //! A5 to A8: the records of the pages, each by itself.
 
 use super::broken::{a_page, Broken, Rule};
-use super::{Lent, Verdict};
+use super::lent::{Lent, Verdict};
 use crate::demand::demand;
 use crate::layout::{kind, state, word, FLAG_BITS, MOST_TABLES, RECORD_WORDS};
 use crate::mapping::Mapping;

@@ -62,7 +62,8 @@ calls! {
 /// by the running thread's enclave.
 ///
 /// ```
-/// use types::{Call, Mapping};
+/// # extern crate types as monitor;
+/// use monitor::{Call, Mapping};
 ///
 /// let call = Call::MapInsecure { space: 0, map: Mapping::from_word(4097), frame: 2 };
 /// let record = call.encode();
