@@ -17,6 +17,8 @@
      first copied to where that caller cannot write.
    - The stack that a service runs on is in none of the lists, large enough, and out of everybody's reach, devices' too, also afterwards:
      words of the key and of pages may stay on it. docs/HOST.md, "Facts for a freestanding host", has the figures, and the registers used.
+   - Who asks is the host's to know: 32 to 42 act for the enclave whose thread runs, whoever asks. From the system 1 to 13 are let through and
+     nothing else, from the enclave one record of 32 to 38; 39 to 42 are the host's, for the hardware.
    - Between services others, devices too, write insecure frames alone. The monitor's frames, the secure ones and the ledger are kept from
      them by the hardware, and an enclave's loads and stores do as MONITOR_LOAD and MONITOR_STORE say.
 
@@ -31,6 +33,13 @@
 #include <stdbool.h>
 #include <stddef.h>
 #include <stdint.h>
+
+/* The archive holds x86-64 code. Its functions are called by the System V convention, whatever a compiler's own is; it calls memcpy and
+   memset by that convention too. */
+#if !defined __x86_64__ || defined __ILP32__
+#error "libmonitor.a is for x86-64 with pointers of 64 bits"
+#endif
+#define MONITOR_SYSV __attribute__((sysv_abi))
 
 #define MONITOR_VERSION_MAJOR 0
 #define MONITOR_VERSION_MINOR 1
@@ -94,6 +103,7 @@ enum monitor_call {
     MONITOR_MAP_DATA = 36,        /* own spare page, mapping word */
     MONITOR_UNMAP_DATA = 37,      /* own data page */
     MONITOR_EXIT = 38,            /* value */
+    /* asked by the host while a thread runs, for the hardware */
     MONITOR_INTERRUPT = 39,       /* r0-r15, flags */
     MONITOR_FAULT = 40,           /* */
     MONITOR_LOAD = 41,            /* address */
@@ -134,12 +144,14 @@ enum monitor_code {
 /* Boot: a fresh ledger with all pages free and this key of 8 words; secure frames zero, other frames unchanged. Nothing is asked of the
    words that were there. The ledger has the key from then on: wipe the list that it came in. Answers MONITOR_DONE; MONITOR_UNFIT where
    numbers or lengths break the rules. */
+MONITOR_SYSV
 uint32_t monitor_boot(uint32_t frames, uint32_t secure, uint32_t pages, uint32_t monitor, uint32_t monitors,
                       const uint32_t *key, size_t key_words,
                       uint32_t *memory, size_t memory_words,
                       uint32_t *ledger, size_t ledger_words);
 
 /* Acceptance: whether the memory and the ledger are in order, numbers and lengths included. Writes nothing. */
+MONITOR_SYSV
 bool monitor_accepts(uint32_t frames, uint32_t secure, uint32_t pages, uint32_t monitor, uint32_t monitors,
                      const uint32_t *memory, size_t memory_words,
                      const uint32_t *ledger, size_t ledger_words);
@@ -147,6 +159,7 @@ bool monitor_accepts(uint32_t frames, uint32_t secure, uint32_t pages, uint32_t 
 /* A batch: 0 to MONITOR_MOST_CALLS call records, and an answer list of equal length. Acceptance is asked first; then the records are obeyed
    in order, each answered in its record of the answers. Answers MONITOR_DONE; MONITOR_UNFIT where numbers or lengths break the rules or
    acceptance says no. From an accepted state every batch leads to an accepted state, whatever others write to insecure frames between. */
+MONITOR_SYSV
 uint32_t monitor_batch(uint32_t frames, uint32_t secure, uint32_t pages, uint32_t monitor, uint32_t monitors,
                        uint32_t *memory, size_t memory_words,
                        uint32_t *ledger, size_t ledger_words,

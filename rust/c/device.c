@@ -18,8 +18,8 @@ enum {
     RECORD = MONITOR_RECORD_WORDS, LEDGER = MONITOR_HEADER_WORDS + PAGES * RECORD,
     HASH = 6, HASH_BYTES = 32, TRAP_FLAG = 0x100
 };
-/* page addresses 4096 and 8192, to be read and written; the frame that is copied, and one that is shared */
-enum { COPIED_AT = 4096, SHARED_AT = 8192, READ_WRITE = 3, COPIED = 5, SHARED = 15 };
+/* page addresses, the last in a second table; their rights; the frame that is copied, and one that is shared */
+enum { COPIED_AT = 4096, SHARED_AT = 8192, GROWN_AT = 4194304, READ_WRITE = 3, COPIED = 5, SHARED = 15 };
 
 static uint32_t memory[MEMORY] __attribute__((aligned(BYTES)));
 static uint32_t ledger[LEDGER];
@@ -72,8 +72,8 @@ static void on(int sig, void (*handler)(int, siginfo_t *, void *))
     expect(sigaction(sig, &action, NULL) == 0, "a handler for the device");
 }
 
-/* A call with or without the device: how often its batch, acceptance included, reached a frame outside. */
-static int reaches(int device, const uint32_t call[RECORD])
+/* A call with or without the device, and its code: how often its batch, acceptance included, reached a frame outside. */
+static int reaches(int device, uint32_t code, const uint32_t call[RECORD])
 {
     uint32_t answer[RECORD];
     int frame, count = 0;
@@ -81,7 +81,7 @@ static int reaches(int device, const uint32_t call[RECORD])
     outside_may(device ? PROT_NONE : PROT_READ | PROT_WRITE);
     expect(monitor_batch(FRAMES, SECURE, PAGES, 0, MONITORS, memory, MEMORY, ledger, LEDGER, call, RECORD, answer, RECORD) == 0, "a batch");
     outside_may(PROT_READ | PROT_WRITE);
-    expect(answer[0] == MONITOR_DONE, "each call is done");
+    expect(answer[0] == code, "each call has its answer");
     expect(monitor_accepts(FRAMES, SECURE, PAGES, 0, MONITORS, memory, MEMORY, ledger, LEDGER), "acceptance after each call");
     for (frame = 0; frame < FRAMES; frame++)
         count += reached[frame];
@@ -89,8 +89,10 @@ static int reaches(int device, const uint32_t call[RECORD])
     return count;
 }
 
-#define REACHES(device, ...) reaches(device, (const uint32_t[RECORD]){__VA_ARGS__})
-#define REACHES_NONE(...) expect(REACHES(1, __VA_ARGS__) == 0, "a call that has no business outside reaches nothing there")
+#define REACHES(device, ...) reaches(device, MONITOR_DONE, (const uint32_t[RECORD]){__VA_ARGS__})
+#define REACHES_NONE(...) ENDS_UNREACHED(MONITOR_DONE, __VA_ARGS__)
+#define ENDS_UNREACHED(code, ...) \
+    expect(reaches(1, code, (const uint32_t[RECORD]){__VA_ARGS__}) == 0, "a call that has no business outside reaches nothing there")
 
 /* A space on page p, its tables on p+1 and p+2, frame 5 copied to page p+3; how often the copying reached outside. */
 static int built(int device, uint32_t p)
@@ -102,6 +104,42 @@ static int built(int device, uint32_t p)
 
 static uint32_t *page(uint32_t p) { return memory + (SECURE + p) * WORDS; }
 static uint32_t *hash(uint32_t p) { return ledger + MONITOR_HEADER_WORDS + p * RECORD + HASH; }
+
+/* The second space goes, and the first is made ready to run. */
+static void taken_down_and_grown(void)
+{
+    uint32_t p;
+    REACHES_NONE(MONITOR_GET_PHYS_PAGES);
+    REACHES_NONE(MONITOR_STOP, 4);
+    for (p = 5; p < PAGES; p++)
+        REACHES_NONE(MONITOR_REMOVE, p);
+    REACHES_NONE(MONITOR_FREE_PAGES);
+    REACHES_NONE(MONITOR_MAP_INSECURE, 0, SHARED_AT + READ_WRITE, SHARED);
+    REACHES_NONE(MONITOR_INIT_THREAD, 0, 7, COPIED_AT);
+    REACHES_NONE(MONITOR_ALLOC_SPARE, 0, 5);
+    REACHES_NONE(MONITOR_ALLOC_SPARE, 0, 6);
+    REACHES_NONE(MONITOR_FINALISE, 0);
+}
+
+/* Every call and event of a run. */
+static void ran(void)
+{
+    REACHES_NONE(MONITOR_ENTER, 7);
+    REACHES_NONE(MONITOR_STORE, COPIED_AT, 77);
+    expect(REACHES(1, MONITOR_LOAD, SHARED_AT) == 1, "a load reads its word once");
+    expect(REACHES(1, MONITOR_STORE, SHARED_AT, 77) == 1, "a store writes its word once");
+    REACHES_NONE(MONITOR_GET_RANDOM, 4711);
+    REACHES_NONE(MONITOR_ATTEST, 1);
+    REACHES_NONE(MONITOR_VERIFY, 1);
+    REACHES_NONE(MONITOR_SPARE_TABLE, 5, 1);
+    REACHES_NONE(MONITOR_MAP_DATA, 6, GROWN_AT + READ_WRITE);
+    REACHES_NONE(MONITOR_UNMAP_DATA, 6);
+    ENDS_UNREACHED(MONITOR_INTERRUPTED, MONITOR_INTERRUPT, 1, 2, 3);
+    REACHES_NONE(MONITOR_RESUME, 7);
+    REACHES_NONE(MONITOR_EXIT, 5);
+    REACHES_NONE(MONITOR_ENTER, 7);
+    ENDS_UNREACHED(MONITOR_FAULTED, MONITOR_FAULT);
+}
 
 int main(void)
 {
@@ -118,18 +156,9 @@ int main(void)
     built(0, 4);
     expect(memcmp(page(3), page(7), BYTES) == 0 && memcmp(hash(0), hash(4), HASH_BYTES) == 0, "what was measured is what was copied");
 
-    REACHES_NONE(MONITOR_STOP, 4);
-    REACHES_NONE(MONITOR_REMOVE, 7);
-    REACHES_NONE(MONITOR_MAP_INSECURE, 0, SHARED_AT + READ_WRITE, SHARED);
-    REACHES_NONE(MONITOR_INIT_THREAD, 0, 7, COPIED_AT);
-    REACHES_NONE(MONITOR_FINALISE, 0);
-    REACHES_NONE(MONITOR_ENTER, 7);
-    REACHES_NONE(MONITOR_STORE, COPIED_AT, 77);
-    expect(REACHES(1, MONITOR_LOAD, SHARED_AT) == 1, "a load reads its word once");
-    expect(REACHES(1, MONITOR_STORE, SHARED_AT, 77) == 1, "a store writes its word once");
-    REACHES_NONE(MONITOR_ATTEST, 1);
-    REACHES_NONE(MONITOR_EXIT, 5);
+    taken_down_and_grown();
+    ran();
     if (!wrong)
-        printf("C: a device that writes after each of %d accesses changes no measurement and no ledger\n", accesses);
+        printf("C: a device that writes after each of %d accesses changes no measurement; all 24 calls tried\n", accesses);
     return wrong;
 }

@@ -21,11 +21,15 @@ static struct { uint32_t r[16], flags; } cpu;
 static uint32_t timer; /* instructions until it fires; 0 is off */
 static uint32_t fuse[MONITOR_KEY_WORDS] = {1, 2, 3, 4, 5, 6, 7, 8};
 
-/* The fuse can be read once after power comes up. */
-static void read_fuse(uint32_t *key)
+/* The fuse can be read once after power comes up. Word by word and volatile, so that no copy passes through wider registers. */
+static void read_fuse(volatile uint32_t *key)
 {
-    memcpy(key, fuse, sizeof fuse);
-    memset(fuse, 0, sizeof fuse);
+    volatile uint32_t *once = fuse;
+    int word;
+    for (word = 0; word < MONITOR_KEY_WORDS; word++) {
+        key[word] = once[word];
+        once[word] = 0;
+    }
 }
 
 /* ---- The host: boot ---- */
@@ -38,16 +42,31 @@ static void must(bool holds, const char *what)
     }
 }
 
-/* The key goes from the fuse to the ledger, and nothing of it stays elsewhere: the writes are volatile, so that none is left out. */
-static void boot(void)
+static void boot_with(uint32_t *key)
+{
+    must(monitor_boot_on(&box, key, MONITOR_KEY_WORDS, memory, MEMORY, ledger, LEDGER) == MONITOR_DONE, "the box boots");
+}
+
+/* The key goes from the fuse to the ledger, and its list is wiped by writes that no compiler leaves out. */
+static void power_up(void)
 {
     uint32_t key[MONITOR_KEY_WORDS];
     volatile uint32_t *wiped = key;
     int word;
     read_fuse(key);
-    must(monitor_boot_on(&box, key, MONITOR_KEY_WORDS, memory, MEMORY, ledger, LEDGER) == MONITOR_DONE, "the box boots");
+    boot_with(key);
     for (word = 0; word < MONITOR_KEY_WORDS; word++)
         wiped[word] = 0;
+}
+
+/* The key and every secure page are gone from what is lent, then from the lists. On real hardware the monitor's stack and the vector
+   registers are wiped here too: a service leaves words of both there. */
+static void power_down(void)
+{
+    static uint32_t none[MONITOR_KEY_WORDS];
+    boot_with(none);
+    memset(call, 0, sizeof call);
+    memset(answer, 0, sizeof answer);
 }
 
 /* ---- The host: calls. Interrupts are off, and devices kept from all lent memory, while a service runs. ---- */
@@ -68,16 +87,21 @@ static uint32_t ask_words(const uint32_t *words, size_t count)
     return ask();
 }
 
-/* The header's first word is the running thread's page plus 1, and 0 while the system has the processor. */
+/* The header's first word is the running thread's page plus 1, and 0 while none runs. This host has one core: so it says who traps. */
 static bool enclave_runs(void) { return ledger[0] != 0; }
 
 /* ---- The host: the enclave's side ---- */
 
-/* The enclave's own call: number and arguments in its first registers, and the answer there. A random word is the hardware's to give. */
+/* The enclave's own call: number and arguments in its first registers, and the answer there. Those are 32 to 38; the later ones are the
+   host's to ask, for the timer and the hardware. A random word is the hardware's to give. (Verify has more words than there are registers:
+   a host lets the enclave point to them.) */
 static void enclave_calls(void)
 {
+    bool its_own = cpu.r[0] >= MONITOR_GET_RANDOM && cpu.r[0] <= MONITOR_EXIT;
     if (cpu.r[0] == MONITOR_GET_RANDOM)
         cpu.r[1] = 4711; /* drawn just now */
+    if (!its_own)
+        memset(cpu.r, 0, ARGUMENTS * sizeof *cpu.r); /* draws MONITOR_BAD_RECORD */
     ask_words(cpu.r, ARGUMENTS);
     if (enclave_runs())
         memcpy(cpu.r, answer, ARGUMENTS * sizeof *answer);
@@ -92,7 +116,7 @@ static void interrupt(void)
     must(ask_words(words, 1 + SAVED) == MONITOR_INTERRUPTED, "a run can be interrupted");
 }
 
-/* A load or a store of the enclave's. Hardware walks the tables itself; here the calls that say what it must do stand for it. */
+/* A load or a store of the enclave's: the calls say what the hardware must do, and here they stand for it. */
 static uint32_t touch(uint32_t number, uint32_t address, uint32_t word)
 {
     uint32_t words[] = {number, address, word};
@@ -144,17 +168,20 @@ static bool is_callers(uint32_t at)
     return monitor_is_insecure(&box, at / MONITOR_FRAME_WORDS) && at % MONITOR_FRAME_WORDS <= MONITOR_FRAME_WORDS - RECORD;
 }
 
-/* The system's trap: where its call is, and where the answer shall be. False refuses the pointers. Each word of the call is read once,
-   hence volatile, and the copy alone is looked at: the caller cannot change it between the look and the deed. */
+/* The system's trap: where its call is, and where the answer shall be. False refuses the pointers, and what is not the system's to ask: the
+   monitor takes 32 and more for the running enclave's, whoever asks. Each word of the call is read once, hence volatile, and the copy alone
+   is looked at: the caller cannot change it between the look and the deed. */
 static bool trap(uint32_t call_at, uint32_t answer_at)
 {
     const volatile uint32_t *theirs = memory;
     uint32_t word, number;
-    if (!is_callers(call_at) || !is_callers(answer_at))
+    if (enclave_runs() || !is_callers(call_at) || !is_callers(answer_at))
         return false;
     for (word = 0; word < RECORD; word++)
         call[word] = theirs[call_at + word];
     number = call[0];
+    if (number >= MONITOR_GET_RANDOM)
+        return false;
     if (ask() == MONITOR_DONE && (number == MONITOR_ENTER || number == MONITOR_RESUME))
         run();
     memcpy(memory + answer_at, answer, sizeof answer);
@@ -193,23 +220,27 @@ static void asks(const struct row *row)
     must(mine[0] == row->code && mine[1] == row->value, "the answer expected");
 }
 
-static void bad_pointers(void)
+/* What the system may not do at all. */
+static void refused(void)
 {
     uint32_t mine = SHARED * MONITOR_FRAME_WORDS, secure = box.secure * MONITOR_FRAME_WORDS;
     must(!trap(secure, mine) && !trap(mine, secure), "no call from a secure page, and no answer there");
     must(!trap(0, mine) && !trap(mine, 0), "none in the monitor's frames");
     must(!trap(mine + MONITOR_FRAME_WORDS - RECORD + 1, mine) && !trap(mine, UINT32_MAX), "none across a frame's end, none outside");
+    memory[mine] = MONITOR_ATTEST;
+    must(!trap(mine, mine), "no call of an enclave's");
 }
 
 int main(void)
 {
     size_t row;
-    boot();
+    power_up();
     memory[PROGRAM * MONITOR_FRAME_WORDS] = 77;
     for (row = 0; row < sizeof day / sizeof *day; row++)
         asks(&day[row]);
-    bad_pointers();
+    refused();
     must(monitor_accepts_on(&box, memory, MEMORY, ledger, LEDGER), "the box is in order");
-    puts("gateway: bad pointers refused; the box is in order");
+    power_down();
+    puts("gateway: bad pointers and the enclave's calls refused; the box was in order and is wiped");
     return 0;
 }
