@@ -1,31 +1,31 @@
-//! Checks the words of `./box` and the plan that they name; says nothing where
-//! all is well. What is wrong is said in one line, with status 2.
+//! Checks the words of `./box` and the files that they name. What is wrong is
+//! said in one line, with status 2. The plan is passed on to standard output: what
+//! stood in a pipe could not be read again. The table of calls, which needs no
+//! library, is printed.
 
-use plan::{options, text, Complaint};
+use plan::options::{self, Asked};
+use plan::stop::Stop;
+use plan::{calls, files};
+use std::ffi::OsString;
+use std::io::{self, Write};
 use std::process::ExitCode;
 
 fn main() -> ExitCode {
-    let words: Result<Vec<String>, _> =
-        std::env::args_os().skip(1).map(|word| word.into_string()).collect();
-    let checked = words
-        .map_err(|word| format!("expected words in UTF-8, found {word:?}"))
-        .and_then(|words| checked(&words));
-    match checked {
+    let words: Vec<OsString> = std::env::args_os().skip(1).collect();
+    match checked(&words) {
         Ok(()) => ExitCode::SUCCESS,
-        Err(complaint) => {
-            eprintln!("box: {complaint}");
-            ExitCode::from(2)
-        }
+        Err(stop) => stop.said(),
     }
 }
 
-fn checked(words: &[String]) -> Result<(), Complaint> {
-    match options::read(words)? {
-        options::Asked::Shift => Ok(()),
-        options::Asked::Run(asked) => {
-            let file =
-                std::fs::read(&asked.file).map_err(|fault| format!("{}: {fault}", asked.file))?;
-            text::read(&file).map(|_| ())
-        }
-    }
+fn checked(words: &[OsString]) -> Result<(), Stop> {
+    let asked = options::read(words)?;
+    let looked = files::look(&asked, false)?;
+    let printed = match asked {
+        Asked::Calls => calls::calls().into_bytes(),
+        _ => looked.text.into_bytes(),
+    };
+    let mut out = io::stdout();
+    out.write_all(&printed)?;
+    Ok(out.flush()?)
 }

@@ -1,8 +1,9 @@
 //! A picture of the ledger: a cell for each page, by its type and its owner.
 
+use crate::COLUMNS;
 use monitor::{Ledger, Page, State};
 
-/// Pages in a row of the picture.
+/// Pages in a row of the picture, at most.
 const ROW: usize = 8;
 /// Letters in a line of a cell, at least.
 const WIDTH: usize = 9;
@@ -19,7 +20,7 @@ pub fn picture(ledger: &Ledger, colour: bool) -> String {
     let longest = cells.iter().flat_map(|cell| &cell.lines).map(String::len).max();
     let width = longest.unwrap_or(0).max(WIDTH);
     let mut text = String::new();
-    for row in cells.chunks(ROW) {
+    for row in cells.chunks(row_of(width)) {
         let used = row.iter().flat_map(|cell| (0..4).filter(|line| !cell.lines[*line].is_empty()));
         for line in 0..=used.max().unwrap_or(0) {
             let shown: Vec<String> =
@@ -29,6 +30,11 @@ pub fn picture(ledger: &Ledger, colour: bool) -> String {
         }
     }
     text + &header(ledger)
+}
+
+/// How many cells of this width stand in a row, with a bar between two.
+fn row_of(width: usize) -> usize {
+    ((COLUMNS + 1) / (width + 1)).clamp(1, ROW)
 }
 
 impl Cell {
@@ -41,7 +47,8 @@ impl Cell {
     }
 }
 
-fn header(ledger: &Ledger) -> String {
+/// What the header says, in a line.
+pub(crate) fn header<W: AsRef<[u32]>>(ledger: &Ledger<W>) -> String {
     let free = (0..ledger.page_count()).filter(|page| ledger.is_free(*page)).count();
     let running = ledger.running().map_or("nothing".into(), |page| format!("thread {page}"));
     format!("free pages: {free}; running: {running}\n")
@@ -60,7 +67,7 @@ fn cell(ledger: &Ledger, number: u32) -> Cell {
 }
 
 /// The type in a word, and its colour.
-fn kind(page: &Page) -> (&'static str, &'static str) {
+pub(crate) fn kind(page: &Page) -> (&'static str, &'static str) {
     match page {
         Page::Free => ("free", "2"),
         Page::Space(_) => ("space", "1;37;44"),
@@ -73,7 +80,7 @@ fn kind(page: &Page) -> (&'static str, &'static str) {
 }
 
 /// Whose it is, then what its type says of it.
-fn details(page: &Page, running: bool) -> [String; 3] {
+pub(crate) fn details(page: &Page, running: bool) -> [String; 3] {
     let whose = page.owner().map_or(String::new(), |owner| format!("of {owner}"));
     match page {
         Page::Space(space) => {

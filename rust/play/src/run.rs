@@ -1,57 +1,74 @@
-//! Plays a plan and prints its answers.
+//! Plays a plan and prints its answers, or what its spaces measure, or draws
+//! the box after it.
 
-use crate::{fresh, play, Played};
-use plan::options::Plan;
-use plan::{text, Complaint};
-use std::fmt::Write;
+use crate::picture::picture;
+use crate::player::Player;
+use crate::svg::svg;
+use crate::{measure, shift, table, write};
+use monitor::{Machine, Monitor};
+use plan::files::marked;
+use plan::options::{Form, Fresh, Picture, Run};
+use plan::stop::Stop;
+use plan::text::Text;
+use std::io::Write;
+use std::path::Path;
 
-/// Plays the plan in its file; what is to be printed.
-pub fn run(asked: &Plan) -> Result<String, Complaint> {
-    let file = &asked.file;
-    let bytes = std::fs::read(file).map_err(|fault| {
-        format!("{file}: expected a plan of calls, and it cannot be read: {}", reason(&fault))
+/// Plays the plan and prints its answers as they come; whether they were as
+/// the plan expects them.
+pub fn run(asked: &Run, text: &Text, colour: bool, out: &mut impl Write) -> Result<bool, Stop> {
+    let mut player = Player::new(text, &asked.plan.fresh)?;
+    if asked.form != Form::Json {
+        out.write_all(table::head().as_bytes())?;
+    }
+    match asked.form {
+        Form::Ledger => player.watched(|played, bench| {
+            let (row, picture) = (table::row(played), picture(bench.ledger(), colour));
+            Ok(write!(out, "{row}\n{picture}\n").and_then(|()| out.flush())?)
+        })?,
+        form => {
+            let line = if form == Form::Json { table::json } else { table::row };
+            player.play(|batch| {
+                batch.iter().try_for_each(|played| out.write_all(line(played).as_bytes()))?;
+                Ok(out.flush()?)
+            })?;
+        }
+    }
+    if asked.form == Form::LedgerAtEnd {
+        write!(out, "\n{}", picture(player.bench().ledger(), colour))?;
+    }
+    out.flush()?;
+    asked.state.as_ref().map_or(Ok(()), |folder| write::state(folder, player.bench()))?;
+    Ok(player.met())
+}
+
+/// Plays the plan and prints what each space measures once it is final, then
+/// what those measure that are not; whether the answers were as the plan
+/// expects them.
+pub fn measure(fresh: &Fresh, text: &Text, out: &mut impl Write) -> Result<bool, Stop> {
+    let mut player = Player::new(text, fresh)?;
+    player.watched(|played, bench| {
+        let line = |call| measure::line(call, &played.answer, bench.ledger());
+        match played.call.as_ref().and_then(line) {
+            None => Ok(()),
+            Some(line) => Ok(writeln!(out, "{line}").and_then(|()| out.flush())?),
+        }
     })?;
-    let plan = text::read(&bytes).map_err(|what| format!("{file}:{what}"))?;
-    let unfit = |fault: monitor::Unfit| format!("{file}: {fault}");
-    let mut bench = fresh(asked.machine, &asked.key).map_err(unfit)?;
-    let played = play(&mut bench, &plan).map_err(unfit)?;
-    Ok(if asked.json { json(&played) } else { table(&played) })
+    out.write_all(measure::building(player.bench()).as_bytes())?;
+    out.flush()?;
+    Ok(player.met())
 }
 
-/// The reason in plain words: what the system says has a number in it.
-fn reason(fault: &std::io::Error) -> &'static str {
-    match fault.kind() {
-        std::io::ErrorKind::NotFound => "there is no such file",
-        std::io::ErrorKind::PermissionDenied => "it may not be read",
-        std::io::ErrorKind::IsADirectory => "it is a folder",
-        _ => "the system refuses",
+/// Plays the plan and writes a picture of the box after it; whether the
+/// answers were as the plan expects them. Without a plan box A is drawn in the
+/// middle of the shift, another box fresh.
+pub fn draw(asked: &Picture, text: &Text) -> Result<bool, Stop> {
+    let drawn = |bench: &Monitor| marked(&svg(bench));
+    let write = |drawn: String| write::whole(Path::new(&asked.file), drawn.as_bytes());
+    if asked.source.is_none() && asked.fresh.machine == Machine::BOX_A {
+        return write(drawn(&shift::middle()?)).map(|()| true);
     }
-}
-
-fn table(played: &[Played]) -> String {
-    let mut text = format!("{:>4}  {:28}  code  answer\n", "row", "call");
-    for (row, played) in (1..).zip(played) {
-        let (call, code, words) = (played.item, played.answer.code(), played.in_words());
-        writeln!(text, "{row:4}  {call:28}  {code:4}  {words}").expect("a string");
-    }
-    text
-}
-
-fn json(played: &[Played]) -> String {
-    let lines = (1..).zip(played).map(|(row, Played { item, answer })| {
-        let name = item.name().map_or("null".into(), |name| format!("\"{name}\""));
-        let (call, line, arguments) = (item.record[0], item.line, list(&item.words()[1..]));
-        let (code, values) = (answer.code(), list(&answer.values()));
-        format!(
-            "{{\"row\":{row},\"line\":{line},\"call\":{call},\"name\":{name},\
-             \"arguments\":{arguments},\"code\":{code},\"answer\":\"{answer}\",\
-             \"values\":{values}}}\n"
-        )
-    });
-    lines.collect()
-}
-
-fn list(words: &[u32]) -> String {
-    let words: Vec<String> = words.iter().map(u32::to_string).collect();
-    format!("[{}]", words.join(","))
+    let mut player = Player::new(text, &asked.fresh)?;
+    player.play(|_| Ok(()))?;
+    write(drawn(player.bench()))?;
+    Ok(player.met())
 }

@@ -1,9 +1,13 @@
 //! The shift on box A, step by step.
 
 use crate::picture::picture;
-use crate::{fresh, play};
-use monitor::Machine;
-use plan::{text, Complaint, KEY};
+use crate::player::{answered, Played};
+use crate::table::wrapped;
+use crate::{fresh, COLUMNS};
+use monitor::{Machine, Monitor};
+use plan::stop::Stop;
+use plan::text::Text;
+use plan::KEY;
 use std::fmt::Write;
 
 /// The steps: what each shows, and its calls as a plan.
@@ -24,21 +28,49 @@ const STEPS: [(&str, &str); 8] = [
     ("Stopped and taken down", "11 0; 12 0; 12 1; 12 2; 12 3; 12 4; 12 0; 12 0;"),
 ];
 
+/// After so many steps the thread runs.
+const RUNS: usize = 5;
+
 /// The whole shift, as it is to be printed.
-pub fn shift(colour: bool) -> Result<String, Complaint> {
-    let unfit = |fault: monitor::Unfit| format!("box A: {fault}");
-    let mut bench = fresh(Machine::BOX_A, &KEY).map_err(unfit)?;
+pub fn shift(colour: bool) -> Result<String, Stop> {
+    let mut bench = box_a()?;
     let mut text =
         String::from("Box A: 16 frames, the monitor's 0-1, secure pages 0-7 are 6-13\n\n");
     text += &picture(bench.ledger(), colour);
     for (number, (title, calls)) in (1..).zip(STEPS) {
         write!(text, "\n{number}. {title}\n\n").expect("a string");
-        for played in play(&mut bench, &text::read(calls.as_bytes())?).map_err(unfit)? {
-            let (call, code, words) = (played.item, played.answer.code(), played.in_words());
-            writeln!(text, "   {call:24} {code:3}  {words}").expect("a string");
+        for played in step(&mut bench, calls)? {
+            text += &line(&played);
         }
         text += "\n";
         text += &picture(bench.ledger(), colour);
     }
     Ok(text)
+}
+
+/// A call and its answer: a line, or more where the answer is long.
+fn line(played: &Played) -> String {
+    let (call, code) = (&played.item, played.answer.code());
+    let start = format!("   {call:24} {code:3}  ");
+    let further = format!("\n{:1$}", "", start.len());
+    let answer = wrapped(&played.in_words(), COLUMNS - start.len());
+    start + &answer.join(&further) + "\n"
+}
+
+/// The box in the middle of the shift, while its thread runs.
+pub fn middle() -> Result<Monitor, Stop> {
+    let mut bench = box_a()?;
+    for (_, calls) in &STEPS[..RUNS] {
+        step(&mut bench, calls)?;
+    }
+    Ok(bench)
+}
+
+fn box_a() -> Result<Monitor, Stop> {
+    Ok(fresh(Machine::BOX_A, &KEY).map_err(|fault| format!("box A: {fault}"))?)
+}
+
+fn step(bench: &mut Monitor, calls: &str) -> Result<Vec<Played>, Stop> {
+    let step = Text::new("the shift".into(), calls.into())?;
+    answered(bench, (1..).zip(step.items()).collect())
 }

@@ -5,11 +5,18 @@ mod common;
 
 use common::{play, Folder};
 use monitor::layout::{MOST_CALLS, MOST_PAGES, RECORD_WORDS};
-use plan::text::read;
+use monitor::Call;
+use plan::text::Text;
+
+/// How a note about arguments that are missing, or too many, ends.
+const NOTE: &str = "the rest are 0";
+
+fn plan(text: &str) -> Text {
+    Text::new("plan".into(), text.into()).expect(text)
+}
 
 fn words(text: &str) -> Vec<Vec<u32>> {
-    let items = read(text.as_bytes()).expect(text);
-    items.iter().map(|item| item.words().to_vec()).collect()
+    plan(text).items().map(|item| item.words().to_vec()).collect()
 }
 
 #[test]
@@ -22,6 +29,11 @@ fn forms() {
         "\n\n  2\n0\n1\n;\n\n13 ;  ",
         "2   0   1   ;   13   ;",
         "002 00 01; 0013;",
+        "InitAddrSpace 0 1; FreePages;",
+        "InitAddrSpace 0 1;FreePages;# the end",
+        "# a plan\n2 0 # two\n1; ##;\n13#\n;",
+        "2 0 1=0 7;13 = 0;",
+        "2 0 1 = # \t\r\u{fffd}\n 2; FreePages=\n0;",
     ] {
         assert_eq!(words(text), two, "{text:?}");
     }
@@ -32,11 +44,27 @@ fn forms() {
     assert_eq!(words(&most)[0].len(), RECORD_WORDS);
 }
 
+/// Every call by both its names.
+#[test]
+fn names() {
+    for row in Call::ROWS {
+        let arguments: Vec<u32> = (1..=row.words() as u32).collect();
+        let given: String = arguments.iter().map(|word| format!(" {word}")).collect();
+        for name in [row.name, row.short] {
+            let call = [&[row.number], &arguments[..]].concat();
+            assert_eq!(words(&format!("{name}{given};")), [call]);
+        }
+    }
+    let tables = "InitL2PTable 1 2; InitL2PTable 1 2 3; InitTable 1 2; SpareTable 1 2 3;";
+    assert_eq!(words(tables).iter().map(|call| call[0]).collect::<Vec<_>>(), [35, 4, 4, 35]);
+}
+
 #[test]
 fn items_know_their_lines() {
-    let items = read(b"1;\n\n 2 0\n 1; 13;\n").expect("good");
-    assert_eq!(items.iter().map(|item| item.line).collect::<Vec<_>>(), [1, 3, 4]);
-    assert_eq!(items[1].to_string(), "InitAddrSpace 0 1");
+    let text = plan("1;\n\n 2 0\n 1; 13;\n");
+    let places: Vec<String> = text.items().map(|item| item.place.to_string()).collect();
+    assert_eq!(places, ["1:1", "3:2", "4:5"]);
+    assert_eq!(text.items().nth(1).expect("a call").to_string(), "InitAddrSpace 0 1");
 }
 
 /// The second program's cases as a plan; its box and memory are the same.
@@ -49,10 +77,11 @@ fn cases() -> String {
 }
 
 fn run(text: &str, options: &[&str]) -> String {
-    let folder = Folder::new(&format!("good-{}-{}", text.len(), options.len()));
+    let folder = Folder::new("good");
     std::fs::write(folder.0.join("plan"), text).expect("written");
     let out = play(&folder, &[&["run", "plan"], options].concat());
-    assert!(out.status.success() && out.stderr.is_empty(), "{out:?}");
+    let said = String::from_utf8(out.stderr).expect("UTF-8");
+    assert!(out.status.success() && said.lines().all(|line| line.ends_with(NOTE)), "{said}");
     String::from_utf8(out.stdout).expect("UTF-8")
 }
 

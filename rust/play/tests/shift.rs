@@ -30,7 +30,7 @@ fn colour_adds_colour_alone() {
 /// To a pipe it is plain, by the program itself.
 #[test]
 fn plain_to_a_pipe() {
-    let out = common::play(&common::Folder::new("shift"), &[]);
+    let out = common::play(&common::Folder::new("shift"), &[""; 0]);
     assert_eq!(String::from_utf8_lossy(&out.stdout), SCREEN);
     assert!(out.status.success() && out.stderr.is_empty());
 }
