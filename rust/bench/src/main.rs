@@ -3,6 +3,7 @@
 
 use bench::meter::Meter;
 use bench::{bound, rows, show};
+use std::io::{ErrorKind, Result, Write};
 use std::process::ExitCode;
 
 fn main() -> ExitCode {
@@ -16,10 +17,20 @@ fn main() -> ExitCode {
             return ExitCode::from(2);
         }
     };
-    println!("{}", show::head(&meter));
-    let mut paid = rows::all(&meter, &mut |row| println!("{}", show::row(&row)));
-    paid.extend(rows::paid_on_larger_boxes(&meter));
-    println!("\n{}", show::paid(&paid));
-    println!("\n{}", show::bound(&meter, &bound::measure(&meter)));
-    ExitCode::SUCCESS
+    match tables(&meter, &mut std::io::stdout()) {
+        // A reader that has seen enough may close the pipe.
+        Err(fault) if fault.kind() != ErrorKind::BrokenPipe => {
+            eprintln!("bench: the output cannot be written: {fault}");
+            ExitCode::FAILURE
+        }
+        _ => ExitCode::SUCCESS,
+    }
+}
+
+fn tables(meter: &Meter, out: &mut dyn Write) -> Result<()> {
+    writeln!(out, "{}", show::head(meter))?;
+    let mut paid = rows::all(meter, &mut |row| writeln!(out, "{}", show::row(&row)))?;
+    paid.extend(rows::paid_on_larger_boxes(meter));
+    writeln!(out, "\n{}", show::paid(&paid))?;
+    writeln!(out, "\n{}", show::bound(meter, &bound::measure(meter)))
 }

@@ -7,6 +7,7 @@ mod hashes;
 use crate::lists::{on_larger_boxes, works, Work};
 use crate::meter::Meter;
 use crate::paid::Paid;
+use std::io::Result;
 
 /// A row: what is done, and what it costs in the meter's unit.
 pub struct Row {
@@ -24,15 +25,14 @@ pub struct Row {
 
 /// All rows, each given away as soon as it is measured. What is paid for the
 /// calls is handed back.
-pub fn all(meter: &Meter, give: &mut dyn FnMut(Row)) -> Vec<Paid> {
-    hashes::rows(meter).into_iter().for_each(&mut *give);
+pub fn all(meter: &Meter, give: &mut dyn FnMut(Row) -> Result<()>) -> Result<Vec<Paid>> {
+    hashes::rows(meter).into_iter().try_for_each(&mut *give)?;
     for (name, lent) in acceptance::boxes() {
-        give(acceptance::row(meter, name, &lent));
+        give(acceptance::row(meter, name, &lent))?;
     }
     let measured = |work: Work| {
         let (row, paid) = calls::rows(meter, &work);
-        give(row);
-        paid
+        give(row).map(|()| paid)
     };
     works().into_iter().map(measured).collect()
 }
