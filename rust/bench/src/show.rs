@@ -10,10 +10,11 @@ pub fn head(meter: &Meter) -> String {
     let sides = ["ours", "plain", "ratio", "folded", "ratio"].map(String::from);
     format!(
         "{}; calls: for each call or pair, acceptance taken off
-folded: plain, but a record is read by a match and its zeros are tested all at once
-dearest box found: one space, 254 tables; every slot in use, by a frame above the secure ones
-  by the clock: each slot by chance empty, or in use by a frame below or above
-paper: cycles in the Komodo paper's table 3, on an Arm core of its day
+folded: plain, but a record is read by a match, its zeros tested all at once
+dearest: the dearest box found, one space with 254 tables, every slot in use
+by clock: the same tables, each slot by chance empty or in use
+paper: cycles in the Komodo paper's table 3, on an Arm core of its day;
+  of a pair those of AllocSpare or MapData alone
 
 {}",
         meter.unit(),
@@ -40,7 +41,7 @@ fn columns(
     paper: &str,
 ) -> String {
     let line = format!(
-        "{name:38} {ours:>9} {plain:>9}  {to_plain:>5} {folded:>9}  {to_folded:>5}  {paper}"
+        "{name:30} {ours:>9} {plain:>9} {to_plain:>5} {folded:>8} {to_folded:>5} {paper:>6}"
     );
     line.trim_end().to_string()
 }
@@ -49,8 +50,8 @@ fn columns(
 pub fn paid(rows: &[Paid]) -> String {
     let heads = ["n", "acceptance", "alone", "calls", "in a batch", "without"].map(String::from);
     let head = "as it is paid, ours: each batch starts with acceptance of its box
-alone: a batch of 1 (a pair: two); in a batch: of so many calls, for each call or pair
-without: in that batch, acceptance taken off, as above\n";
+alone: a batch of 1 (a pair: two); in a batch: of so many calls, for each call
+or pair; without: in that batch, acceptance taken off, as above\n";
     let lines = rows.iter().map(paid_line);
     [head.to_string(), paid_columns("", heads)]
         .into_iter()

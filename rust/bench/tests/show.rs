@@ -7,14 +7,14 @@ use bench::rows::acceptance;
 use bench::rows::Row;
 use bench::show;
 
-const WIDEST: usize = 100;
+const WIDEST: usize = 80;
 
 fn fits(text: &str) -> bool {
     text.lines().all(|line| line.chars().count() <= WIDEST && line.trim_end() == line)
 }
 
 fn row(name: &str) -> Row {
-    let paper = "217, AllocSpare";
+    let paper = "12411";
     Row { name: name.into(), ours: 9125735.4, plain: 10957021.0, folded: Some(9e6), paper }
 }
 

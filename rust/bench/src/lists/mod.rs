@@ -83,10 +83,10 @@ pub fn works() -> Vec<Work> {
         Work::of(("Enter + Exit", "738"), idle.clone(), |_| {
             vec![vec![ENTER, 4, 7, 8, 9], vec![EXIT, 5]]
         }),
-        Work::of(("AllocSpare + Remove", "217, AllocSpare"), idle, |_| {
+        Work::of(("AllocSpare + Remove", "217"), idle, |_| {
             vec![vec![ALLOC_SPARE, 0, 6], vec![REMOVE, 6]]
         }),
-        Work::of(("MapData + UnmapData", "5826, MapData"), running.clone(), |_| {
+        Work::of(("MapData + UnmapData", "5826"), running.clone(), |_| {
             vec![vec![MAP_DATA, 5, writable(0, 2)], vec![UNMAP_DATA, 5]]
         }),
         map_secure(),

@@ -12,10 +12,10 @@ pub fn boxes() -> Vec<(String, Lent)> {
     let named =
         |how: &str, lent: Lent| (format!("acceptance{how}, n = {}", lent.machine.pages), lent);
     let mut boxes: Vec<_> =
-        [8, 64, MOST_PAGES].map(|pages| named(" of a full box", full(pages))).into();
-    boxes.push(named(" of a fresh box", Lent::after(small(MOST_PAGES), &[])));
-    boxes.push(named(", dearest box found", dearest::in_instructions()));
-    boxes.push(named(", dearest by clock", dearest::by_the_clock()));
+        [8, 64, MOST_PAGES].map(|pages| named(", full box", full(pages))).into();
+    boxes.push(named(", fresh box", Lent::after(small(MOST_PAGES), &[])));
+    boxes.push(named(", dearest", dearest::in_instructions()));
+    boxes.push(named(", by clock", dearest::by_the_clock()));
     boxes
 }
 

@@ -42,5 +42,5 @@ pub fn rows(meter: &Meter) -> Vec<Row> {
         let name = name.into();
         Row { name, ours: costs[0], plain, folded: None, paper: "" }
     };
-    vec![row("SHA-256 of a page", costs[1]), row("  the same, beside the second program", costs[2])]
+    vec![row("SHA-256 of a page", costs[1]), row("  beside the second program", costs[2])]
 }
