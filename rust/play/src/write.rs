@@ -2,7 +2,7 @@
 
 use monitor::Monitor;
 use plan::files::beside::beside;
-use plan::files::{leftovers, LEDGER, MEMORY};
+use plan::files::{LEDGER, MEMORY};
 use plan::shown::shown;
 use plan::stop::Stop;
 use std::ffi::OsStr;
@@ -59,10 +59,6 @@ pub fn state(folder: &OsStr, bench: &Monitor) -> Result<(), Stop> {
             return Err(unwritten(path, fault));
         }
         _ => {}
-    }
-    for left in leftovers(path) {
-        // What cannot be removed is in nobody's way.
-        let _ = std::fs::remove_file(left);
     }
     let memory = Beside::write(&path.join(MEMORY), &bytes(bench.memory().words()))?;
     let ledger = Beside::write(&path.join(LEDGER), &bytes(bench.ledger().words()))?;

@@ -8,7 +8,6 @@ use plan::files::beside::beside;
 use plan::KEY;
 use play::write;
 use std::fs;
-use std::os::unix::fs::symlink;
 use std::path::Path;
 
 fn words(path: &Path) -> Vec<u32> {
@@ -28,10 +27,11 @@ fn names(folder: &Path) -> Vec<String> {
 #[test]
 fn a_state_is_written() {
     let folder = Folder::new("state");
-    let state = folder.0.join("state");
     let plan = b"2 0 1; 4 0 2 0; 6 0 3 4099 5;";
-    for _ in 0..2 {
-        let out = play_with(&folder, &["run", "-", "--state", "state"], plan);
+    fs::create_dir(folder.0.join("empty")).expect("made");
+    for name in ["new", "empty"] {
+        let state = folder.0.join(name);
+        let out = play_with(&folder, &["run", "-", "--state", name], plan);
         assert!(out.status.success() && out.stderr.is_empty(), "{out:?}");
         assert_eq!(names(&state), ["ledger", "memory"]);
         let (memory, ledger) = (words(&state.join("memory")), words(&state.join("ledger")));
@@ -40,55 +40,37 @@ fn a_state_is_written() {
         Monitor::resume(Machine::BOX_A, Memory::over(memory), Ledger::over(ledger))
             .expect("accepted");
     }
-    assert_eq!(names(&folder.0), ["state"]);
+    assert_eq!(names(&folder.0), ["empty", "new"]);
 }
 
-/// Refused before anything is played, and nothing is touched.
+/// Refused before anything is played, and nothing is touched: not even what
+/// looks like a state.
 #[test]
 fn a_state_goes_to_a_folder_of_its_own() {
     let folder = Folder::new("state-bad");
     fs::write(folder.0.join("file"), "").expect("written");
-    fs::create_dir_all(folder.0.join("busy/memory")).expect("made");
-    fs::create_dir(folder.0.join("used")).expect("made");
-    fs::create_dir(folder.0.join("linked")).expect("made");
-    symlink("../used/memory", folder.0.join("linked/memory")).expect("a link");
-    for name in ["memory", "notes\u{1b}.txt"] {
-        fs::write(folder.0.join("used").join(name), "x").expect("written");
+    for (name, own) in [("a", "memory"), ("b", "notes\u{1b}.txt"), ("c", "ledger.7.new")] {
+        fs::create_dir(folder.0.join(name)).expect("made");
+        fs::write(folder.0.join(name).join(own), vec![b'x'; 4096]).expect("written");
     }
-    let own = "expected a folder of nothing but memory and ledger, found";
+    let own = "expected a new or an empty folder, found";
     for (name, what) in [
-        ("used", format!(r"{own} notes\u{{1b}}.txt")),
-        ("busy", "expected memory to be a plain file, found a folder".into()),
-        ("linked", "expected memory to be a plain file, found a symbolic link".into()),
+        ("a", format!("{own} memory")),
+        ("b", format!(r"{own} notes\u{{1b}}.txt")),
+        ("c", format!("{own} ledger.7.new")),
         ("file", "expected a folder, found something else".into()),
         ("none/state", "expected a folder to write it in, and none is none".into()),
     ] {
         let out = play_with(&folder, &["run", "-", "--state", name], b"13;");
         assert_eq!(complaint(&out, 2), format!("box: --state: {name}: {what}"));
     }
-    assert_eq!(names(&folder.0), ["busy", "file", "linked", "used"]);
-    assert_eq!(fs::read(folder.0.join("used/memory")).expect("a file"), b"x");
+    assert_eq!(names(&folder.0), ["a", "b", "c", "file"]);
+    assert_eq!(fs::read(folder.0.join("a/memory")).expect("a file"), [b'x'; 4096]);
     let out = play_with(&folder, &["run", "-", "--state", "new"], b"13; x");
     assert_eq!(out.status.code(), Some(2));
     assert!(!folder.0.join("new").exists());
-}
-
-/// What a process that was ended left beside its places goes; other names of
-/// that kind are not a state's.
-#[test]
-fn what_was_left_beside_a_state() {
-    let folder = Folder::new("state-left");
-    let left = |name: &str| fs::write(folder.0.join("s").join(name), "x").expect("written");
-    let run = || play_with(&folder, &["run", "-", "--state", "s"], b"13;");
-    fs::create_dir(folder.0.join("s")).expect("made");
-    ["memory.99999999.new", "ledger.99999999.new", "ledger.4000000000.new"]
-        .into_iter()
-        .for_each(left);
-    assert!(run().status.success());
-    assert_eq!(names(&folder.0.join("s")), ["ledger", "memory"]);
-    left("notes.99999999.new");
-    let own = "expected a folder of nothing but memory and ledger, found notes.99999999.new";
-    assert_eq!(complaint(&run(), 2), format!("box: --state: s: {own}"));
+    let out = play_with(&folder, &["run", "--state", "/proc/x", "-"], b"13;");
+    assert!(complaint(&out, 1).starts_with("box: /proc/x cannot be written: "));
 }
 
 /// Where the second file cannot be written the first is not moved either.
@@ -103,21 +85,6 @@ fn both_files_or_none() {
     assert_eq!(names(&folder.0), [""; 0]);
     assert!(write::state(folder.0.as_os_str(), &bench).is_ok());
     assert_eq!(names(&folder.0), ["ledger", "memory"]);
-}
-
-/// A file of somebody's own is not overwritten because it has a state's name.
-#[test]
-fn a_state_overwrites_states_alone() {
-    let folder = Folder::new("state-own");
-    for name in ["memory", "ledger"] {
-        fs::write(folder.0.join(name), "13;").expect("written");
-        let said = complaint(&play(&folder, &["run", "--state", ".", name]), 2);
-        let what = format!("expected {name} of a state, found a file of 3 bytes");
-        assert_eq!(said, format!("box: --state: .: {what}"));
-        fs::remove_file(folder.0.join(name)).expect("removed");
-    }
-    let out = play_with(&folder, &["run", "--state", "/proc/x", "-"], b"13;");
-    assert!(complaint(&out, 1).starts_with("box: /proc/x cannot be written: "));
 }
 
 #[test]

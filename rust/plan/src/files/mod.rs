@@ -9,7 +9,7 @@ mod state;
 
 pub use picture::marked;
 pub use source::MOST_BYTES;
-pub use state::{leftovers, State, LEDGER, MEMORY};
+pub use state::{State, LEDGER, MEMORY};
 
 use crate::options::{Asked, Run, Source};
 use crate::stop::Stop;

@@ -1,12 +1,12 @@
-use super::beside::{is_beside, is_left, may_stand};
+use super::beside::may_stand;
 use super::plain::{endless, reason};
 use crate::shown::shown;
 use crate::stop::Stop;
 use crate::Complaint;
 use std::ffi::OsStr;
-use std::fs::{DirEntry, File};
+use std::fs::File;
 use std::io::{self, Read};
-use std::path::{Path, PathBuf};
+use std::path::Path;
 use types::layout::{FRAME_WORDS, HEADER_WORDS, MOST_FRAMES, MOST_PAGES, RECORD_WORDS};
 
 /// The file of a state's memory.
@@ -68,7 +68,8 @@ fn words(path: &Path, most: usize) -> Result<Vec<u32>, Complaint> {
 }
 
 /// Whether a state may be written to a folder: it is missing and can be made,
-/// or it holds nothing but a state.
+/// or it is empty. Nothing that stands there could be told from a file of
+/// somebody's own.
 pub fn may_write(folder: &OsStr) -> Result<(), Stop> {
     let path = Path::new(folder);
     let complain = |what: String| Stop::Asked(format!("--state: {}: {what}", shown(folder)));
@@ -80,57 +81,11 @@ pub fn may_write(folder: &OsStr) -> Result<(), Stop> {
         return Err(complain("expected a folder, found something else".into()));
     }
     let unread = |fault: io::Error| complain(format!("expected a folder, and {}", reason(&fault)));
-    for entry in path.read_dir().map_err(unread)? {
-        own(&entry.map_err(unread)?).map_err(complain)?;
+    if let Some(entry) = path.read_dir().map_err(unread)?.next() {
+        let name = entry.map_err(unread)?.file_name();
+        return Err(complain(format!("expected a new or an empty folder, found {}", shown(&name))));
     }
     may_stand(&path.join(MEMORY))
-}
-
-/// Whether an entry of a folder is of a state: a plain file of its names, or
-/// what was left beside one.
-fn own(entry: &DirEntry) -> Result<(), String> {
-    let name = entry.file_name();
-    if !names().any(|own| name == own || is_beside(&name, own)) {
-        let expected = format!("expected a folder of nothing but {MEMORY} and {LEDGER}");
-        return Err(format!("{expected}, found {}", shown(&name)));
-    }
-    let found = match entry.file_type() {
-        Ok(kind) if kind.is_file() => return of_a_box(entry, &name),
-        Ok(kind) if kind.is_dir() => "a folder",
-        Ok(kind) if kind.is_symlink() => "a symbolic link",
-        _ => "something else",
-    };
-    Err(format!("expected {} to be a plain file, found {found}", shown(&name)))
-}
-
-/// Whether a file has the length of some box's memory or ledger: another is
-/// somebody else's.
-fn of_a_box(entry: &DirEntry, name: &OsStr) -> Result<(), String> {
-    let bytes = entry.metadata().map_or(0, |about| about.len() as usize);
-    let frames = bytes / (FRAME_WORDS * WORD);
-    let pages = (bytes / WORD).saturating_sub(HEADER_WORDS) / RECORD_WORDS;
-    let (needed, fits) = match name.to_str() {
-        Some(MEMORY) => (frames * FRAME_WORDS * WORD, frames <= MOST_FRAMES as usize),
-        Some(LEDGER) => {
-            ((HEADER_WORDS + pages * RECORD_WORDS) * WORD, pages <= MOST_PAGES as usize)
-        }
-        _ => return Ok(()),
-    };
-    match bytes > 0 && bytes == needed && fits {
-        true => Ok(()),
-        false => Err(format!("expected {} of a state, found a file of {bytes} bytes", shown(name))),
-    }
-}
-
-fn names() -> impl Iterator<Item = &'static str> {
-    [MEMORY, LEDGER].into_iter()
-}
-
-/// What a process that was ended left in the folder of a state.
-pub fn leftovers(folder: &Path) -> Vec<PathBuf> {
-    let entries = folder.read_dir().into_iter().flatten().flatten();
-    let left = |entry: &DirEntry| names().any(|own| is_left(&entry.file_name(), own));
-    entries.filter(left).map(|entry| entry.path()).collect()
 }
 
 /// Whether the folder that a path stands in is there.
