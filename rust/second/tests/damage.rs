@@ -3,7 +3,7 @@
 
 use second::layout::{MOST_PAGES, RECORD_WORDS};
 use second::random::{
-    damage, fresh, kinds, limit_machines, next_call, random_machine, Rng, Verdict, View,
+    damage, fresh, kinds, limit_machines, next_call, random_machine, scattered, Rng, Verdict, View,
 };
 use second::{accepts, batch, direct, Machine};
 use std::collections::BTreeMap;
@@ -104,16 +104,7 @@ fn the_two_checks_agree_on_random_words() {
     let mut rng = Rng::new(23);
     let machine = Machine { frames: 6, secure: 2, pages: 3, monitor: 0, monitors: 1 };
     for _ in 0..20_000 {
-        let (mut memory, mut ledger) =
-            (vec![0; machine.memory_words()], vec![0; machine.ledger_words()]);
-        for _ in 0..rng.below(40) {
-            let place = rng.below(ledger.len() as u32) as usize;
-            ledger[place] = rng.below(8);
-        }
-        for _ in 0..rng.below(4) {
-            let place = rng.below(memory.len() as u32) as usize;
-            memory[place] = rng.word();
-        }
+        let (memory, ledger) = scattered(&mut rng, machine);
         both(machine, &memory, &ledger);
     }
 }

@@ -3,7 +3,9 @@
 
 use second::accept::accepted;
 use second::layout::{FRAME_WORDS, HEADER_WORDS, RECORD_WORDS};
-use second::random::{damage, fresh, limit_machines, next_call, random_machine, Rng, View};
+use second::random::{
+    damage, fresh, limit_machines, next_call, random_machine, scattered, Rng, View,
+};
 use second::{batch, direct, why, Broken, Machine, Place, Rule};
 use std::collections::BTreeSet;
 
@@ -75,16 +77,7 @@ fn random_words() {
     let mut rng = Rng::new(42);
     let machine = Machine { frames: 6, secure: 2, pages: 3, monitor: 0, monitors: 1 };
     for _ in 0..10_000 {
-        let mut memory = vec![0; machine.memory_words()];
-        let mut ledger = vec![0; machine.ledger_words()];
-        for _ in 0..rng.below(40) {
-            let place = rng.below(ledger.len() as u32) as usize;
-            ledger[place] = rng.below(8);
-        }
-        for _ in 0..rng.below(4) {
-            let place = rng.below(memory.len() as u32) as usize;
-            memory[place] = rng.word();
-        }
+        let (memory, ledger) = scattered(&mut rng, machine);
         told(machine, &memory, &ledger);
     }
 }

@@ -148,6 +148,22 @@ pub fn fresh(rng: &mut Rng, machine: Machine) -> (Vec<u32>, Vec<u32>) {
     (memory, ledger)
 }
 
+/// Zeros with a few small words in the ledger and a few random ones in memory:
+/// hardly ever accepted.
+pub fn scattered(rng: &mut Rng, machine: Machine) -> (Vec<u32>, Vec<u32>) {
+    let (mut memory, mut ledger) =
+        (vec![0; machine.memory_words()], vec![0; machine.ledger_words()]);
+    for _ in 0..rng.below(40) {
+        let place = rng.below(ledger.len() as u32) as usize;
+        ledger[place] = rng.below(8);
+    }
+    for _ in 0..rng.below(4) {
+        let place = rng.below(memory.len() as u32) as usize;
+        memory[place] = rng.word();
+    }
+    (memory, ledger)
+}
+
 /// An outsider at work: writes some words of insecure frames.
 pub fn outsider(rng: &mut Rng, machine: Machine, memory: &mut [u32]) {
     for _ in 0..rng.below(4) {
