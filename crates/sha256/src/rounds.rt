@@ -138,7 +138,7 @@ fn at(v: Vars, k: &[u32; 16], w: &[u32; 16], i: usize) -> Vars
     one_round(v, k[i], w[i])
 }
 
-// Sixteen rounds, written out, since a constant index folds the round's constant to a literal.
+// Sixteen rounds, written out: from one to the next the eight variables change names, not places.
 fn sixteen(v0: Vars, k: &[u32; 16], w: &[u32; 16]) -> Vars
     ensures { λ r. ⌜ r ≡ rounds 16 (now (k .entry)) (now (w .entry)) v0 ⌝ }
 {
@@ -162,8 +162,8 @@ fn sixteen(v0: Vars, k: &[u32; 16], w: &[u32; 16]) -> Vars
     v
 }
 
-// The 64 rounds over a block, whose schedule is four times sixteen words.
-pub fn all_rounds(v0: Vars, b: [u32; 16]) -> Vars
+// The 64 rounds over a block, whose schedule is rolled through its sixteen words.
+pub fn all_rounds(v0: Vars, mut b: [u32; 16]) -> Vars
     ensures { λ r. ⌜ r ≡ rounds 64 K (schedule b) v0 ⌝ }
 {
     let k0 = K0;
@@ -171,13 +171,10 @@ pub fn all_rounds(v0: Vars, b: [u32; 16]) -> Vars
     let k2 = K2;
     let k3 = K3;
     let v1 = sixteen(v0, &k0, &b);
-    let mut w1 = b;
-    next16(&mut w1);
-    let v2 = sixteen(v1, &k1, &w1);
-    let mut w2 = w1;
-    next16(&mut w2);
-    let v3 = sixteen(v2, &k2, &w2);
-    let mut w3 = w2;
-    next16(&mut w3);
-    sixteen(v3, &k3, &w3)
+    next16(&mut b);
+    let v2 = sixteen(v1, &k1, &b);
+    next16(&mut b);
+    let v3 = sixteen(v2, &k2, &b);
+    next16(&mut b);
+    sixteen(v3, &k3, &b)
 }
