@@ -64,7 +64,7 @@ fn differ(run: &Run) -> Result<(), String> {
     println!("differ: seed {}", run.seed);
     let (start, mut tally) = (Instant::now(), Tally::default());
     let mut shown = start;
-    hashes::hashes(run.seed)?;
+    hashes::hashes(&Proved, run.seed)?;
     for seed in run.seed.. {
         let over = match run.length {
             Length::Gate => tally.rounds >= ROUNDS,

@@ -1,5 +1,6 @@
-//! The three services, by whoever does them.
+//! The three services, and the hashes, by whoever does them.
 
+use second::sha::Hash;
 use second::Machine;
 
 /// The three services over lent words.
@@ -19,7 +20,17 @@ pub trait Services {
     ) -> u32;
 }
 
-/// The proved library.
+/// SHA-256 and HMAC of words.
+pub trait Hashes {
+    /// The hash with these words added, if they are whole blocks.
+    fn absorb(&self, hash: Hash, words: &[u32]) -> Option<Hash>;
+    /// SHA-256.
+    fn digest(&self, words: &[u32]) -> Hash;
+    /// HMAC by a key of at most 16 words.
+    fn hmac(&self, key: &[u32], text: &[u32]) -> Option<Hash>;
+}
+
+/// The proved libraries.
 pub struct Proved;
 
 fn numbers(m: Machine) -> monitor::Machine {
@@ -45,6 +56,20 @@ impl Services for Proved {
         answers: &mut [u32],
     ) -> u32 {
         monitor::words::batch(numbers(m), memory, ledger, calls, answers)
+    }
+}
+
+impl Hashes for Proved {
+    fn absorb(&self, hash: Hash, words: &[u32]) -> Option<Hash> {
+        hash::absorb(hash, words)
+    }
+
+    fn digest(&self, words: &[u32]) -> Hash {
+        hash::digest(words)
+    }
+
+    fn hmac(&self, key: &[u32], text: &[u32]) -> Option<Hash> {
+        hash::hmac(key, text)
     }
 }
 

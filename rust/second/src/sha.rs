@@ -10,7 +10,8 @@ pub const START: Hash = [
     0x6a09e667, 0xbb67ae85, 0x3c6ef372, 0xa54ff53a, 0x510e527f, 0x9b05688c, 0x1f83d9ab, 0x5be0cd19,
 ];
 
-const ROUND: [u32; 64] = [
+/// The constants of the 64 rounds.
+pub const ROUND: [u32; 64] = [
     0x428a2f98, 0x71374491, 0xb5c0fbcf, 0xe9b5dba5, 0x3956c25b, 0x59f111f1, 0x923f82a4, 0xab1c5ed5,
     0xd807aa98, 0x12835b01, 0x243185be, 0x550c7dc3, 0x72be5d74, 0x80deb1fe, 0x9bdc06a7, 0xc19bf174,
     0xe49b69c1, 0xefbe4786, 0x0fc19dc6, 0x240ca1cc, 0x2de92c6f, 0x4a7484aa, 0x5cb0a9dc, 0x76f988da,
@@ -35,7 +36,7 @@ fn schedule(block: &[u32]) -> [u32; 64] {
 }
 
 /// One round: the new working variables from the old ones.
-fn round([a, b, c, d, e, f, g, h]: Hash, constant: u32, word: u32) -> Hash {
+pub fn round([a, b, c, d, e, f, g, h]: Hash, constant: u32, word: u32) -> Hash {
     let big1 = e.rotate_right(6) ^ e.rotate_right(11) ^ e.rotate_right(25);
     let choose = e & f ^ !e & g;
     let first = h.wrapping_add(big1).wrapping_add(choose).wrapping_add(constant).wrapping_add(word);
