@@ -4,7 +4,7 @@
        QEMU_PLUGIN=file=count.so,out=FILE qemu-x86_64 PROGRAM
 
    Whenever the program yields (sched_yield), the count so far is written to FILE, 8 bytes. The declarations are those of QEMU's plugin
-   interface, version 1, which Debian installs no header for. */
+   interface, version 1, which Debian installs no header for; tried with QEMU 7.2. */
 #include <fcntl.h>
 #include <stdint.h>
 #include <string.h>
@@ -16,13 +16,15 @@
 
 typedef uint64_t plugin;
 struct block;
+struct instruction;
 typedef void on_block(plugin, struct block *);
 typedef void on_call(plugin, unsigned, int64_t, uint64_t, uint64_t, uint64_t, uint64_t, uint64_t, uint64_t, uint64_t, uint64_t);
 
 void qemu_plugin_register_vcpu_tb_trans_cb(plugin, on_block *);
-void qemu_plugin_register_vcpu_tb_exec_inline(struct block *, int, void *, uint64_t);
+void qemu_plugin_register_vcpu_insn_exec_inline(struct instruction *, int, void *, uint64_t);
 void qemu_plugin_register_vcpu_syscall_cb(plugin, on_call *);
 size_t qemu_plugin_tb_n_insns(const struct block *);
+struct instruction *qemu_plugin_tb_get_insn(const struct block *, size_t);
 
 SHOWN int qemu_plugin_version = 1;
 SHOWN int qemu_plugin_install(plugin, const void *, int, char **);
@@ -30,10 +32,13 @@ SHOWN int qemu_plugin_install(plugin, const void *, int, char **);
 static uint64_t count;
 static int out;
 
+/* Each instruction counts where it runs: a block's length has one too many where its last instruction crosses a page's end, since that one
+   begins the next block. */
 static void add_block(plugin self, struct block *block)
 {
     (void)self;
-    qemu_plugin_register_vcpu_tb_exec_inline(block, ADD, &count, qemu_plugin_tb_n_insns(block));
+    for (size_t i = 0; i < qemu_plugin_tb_n_insns(block); i++)
+        qemu_plugin_register_vcpu_insn_exec_inline(qemu_plugin_tb_get_insn(block, i), ADD, &count, 1);
 }
 
 static void write_count(plugin self, unsigned cpu, int64_t number, uint64_t a, uint64_t b, uint64_t c, uint64_t d, uint64_t e, uint64_t f,

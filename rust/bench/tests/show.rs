@@ -22,12 +22,15 @@ fn row(name: &str) -> Row {
 fn rows_stand_under_their_heads() {
     let meter = Meter::Clock;
     let head = show::head(&meter);
-    assert!(fits(&head) && head.starts_with("nanoseconds"));
+    let names = head.lines().last().expect("a line");
+    // .ci/moved finds the unit and the columns by these words
+    assert!(fits(&head) && head.starts_with("nanoseconds; "));
+    assert!(names.contains(" ours     plain ratio"), "{names}");
     let end = |line: &str, word: &str| line.find(word).map(|start| start + word.len());
     for (name, _) in acceptance::boxes() {
         let line = show::row(&row(&name));
         assert!(fits(&line), "{line}");
-        assert_eq!(end(&line, " 9125735"), end(head.lines().last().expect("a line"), "ours"));
+        assert_eq!(end(&line, " 9125735"), end(names, "ours"));
     }
 }
 
