@@ -43,8 +43,8 @@
 
 #define MONITOR_VERSION_MAJOR 0
 #define MONITOR_VERSION_MINOR 1
-#define MONITOR_VERSION_PATCH 0
-#define MONITOR_VERSION "0.1.0"
+#define MONITOR_VERSION_PATCH 1
+#define MONITOR_VERSION "0.1.1"
 
 #ifdef __cplusplus
 extern "C" {
