@@ -8,7 +8,7 @@ use lib.Dec.{leb, eqb}
 use Rattle.words.specs.Words.{when, first}
 use Rattle.machine.specs.declared.Machine.{Machine}
 use Rattle.machine.specs.Machine.{insecure}
-use Rattle.mapping.specs.Mapping.{rightsOf, addressOf, executes, wellFormed}
+use Rattle.mapping.specs.Mapping.{rightsOf, executes, wellFormed}
 use Rattle.sha256.specs.Sha256.{H0, compress, absorb, finish}
 use Rattle.ledger.specs.Names.{stateWord, dataBlocks, free, space, thread, firstLevel, secondLevel, dataPage, spare, building, final, stopped}
 use Rattle.ledger.specs.Ledger.{typeOf, firstOf, stateOf, blocksOf, hash, put, occupy, gain, putHash, measure}
@@ -112,9 +112,9 @@ mapSecureCode b M L a p map g =
     ∷ when (not (insecure b g)) notInsecure
     ∷ [])
 
--- "MapSecure adds 2, page address (rights cleared), zeros, then the 1,024 words copied."
+-- "MapSecure adds 2, .., zeros, then the 1,024 words copied." #105: "MapSecure's second measured word becomes the whole mapping word."
 abbrev pub mapBlock : ℕ → List ℕ
-mapBlock map = 2 ∷ addressOf map ∷ replicate 14 0
+mapBlock map = 2 ∷ map ∷ replicate 14 0
 
 unfoldable pub addPage : List ℕ → ℕ → List ℕ → List ℕ
 addPage h map words = absorb (compress h (mapBlock map)) words

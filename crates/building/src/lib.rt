@@ -253,7 +253,7 @@ fn map_block(map: Mapping) -> [u32; BLOCK]
 {
     let mut block = [0u32; BLOCK];
     block[0] = MAP_BLOCK;
-    block[1] = map.address();
+    block[1] = map.0;
     block
 }
 
