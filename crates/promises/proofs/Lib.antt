@@ -12,6 +12,7 @@ pub mod Written
 pub mod Shut
 pub mod Firsts
 pub mod Measured
+pub mod Tells
 pub mod Attested
 pub mod Jobs
 pub mod Published

@@ -97,7 +97,7 @@ module _ {b : Machine} {L L' : List ℕ} {s p k : ℕ} {vs h : List ℕ} (x : Ma
 
 -- ---- one record
 -- the frame that a done MapSecure names is insecure, so it has 1,024 words
-copies : (b : Machine) (M L W : List ℕ) → Accepted b M L → Did b M L W 6 → length (wordsOf M (arg W 4)) ≡ 1024
+pub copies : (b : Machine) (M L W : List ℕ) → Accepted b M L → Did b M L W 6 → length (wordsOf M (arg W 4)) ≡ 1024
 unfolding lookup calls mapSecure
 copies b M L W ok d =
     let insecure = passes-map-secure b M L (arg W 1) (arg W 2) (arg W 3) (arg W 4) (effect refl d refl .0) .7 in

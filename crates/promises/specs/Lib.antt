@@ -9,6 +9,7 @@ pub mod Numbers
 pub mod Settled
 pub mod Firsts
 pub mod Measured
+pub mod Tells
 pub mod Attested
 pub mod Jobs
 pub mod Published

@@ -7,6 +7,7 @@ use Rattle.promises.specs.Jobs.{BootIsFor, GetPhysPagesIsFor, InitAddrSp
 use Rattle.promises.specs.Else.{NothingElse}
 use Rattle.promises.specs.Written.{NothingElseWritten}
 use Rattle.promises.specs.Measured.{MeasurementIsSha256}
+use Rattle.promises.specs.Tells.{MessageTellsTheBuild, MeasurementTellsTheBuild}
 use Rattle.promises.specs.Attested.{AttestIsHmac, VerifyIsHmac, KeyStays, AttestedIsVerified}
 use Rattle.promises.specs.Published.{ShiftIsPlayed, AbcIsPublished, JefeIsPublished}
 use Rattle.promises.specs.Cheats.{SomebodyServes, NobodyRefusesAll, NobodyHasASingleReply, NobodyMovesNothing, NobodyPlaysAllAtOnce, NobodyInventsCounts, MovingNothingKeeps}
@@ -59,6 +60,8 @@ pub record Promises : Type 0 where
   pub nothing-else-written : NothingElseWritten
   -- .. measurements and attestations
   pub measurement-is-sha256 : MeasurementIsSha256
+  pub message-tells-the-build : MessageTellsTheBuild
+  pub measurement-tells-the-build : MeasurementTellsTheBuild
   pub attest-is-hmac : AttestIsHmac
   pub verify-is-hmac : VerifyIsHmac
   pub key-stays : KeyStays

@@ -17,6 +17,7 @@ use Rattle.promises.proofs.Jobs.Silent.{done-says-no-more}
 use Rattle.promises.proofs.Else.{nothing-else}
 use Rattle.promises.proofs.Written.{nothing-else-written}
 use Rattle.promises.proofs.Measured.{measurement-is-sha256}
+use Rattle.promises.proofs.Tells.{message-tells-the-build, measurement-tells-the-build}
 use Rattle.promises.proofs.Attested.{attest-is-hmac, verify-is-hmac, key-stays, attested-is-verified}
 use Rattle.promises.proofs.Published.{shift-is-played, abc-is-published, jefe-is-published}
 use Rattle.promises.proofs.Decided.{somebody-serves}
@@ -70,6 +71,8 @@ returns c =
       nothing-else = nothing-else;
       nothing-else-written = nothing-else-written;
       measurement-is-sha256 = measurement-is-sha256;
+      message-tells-the-build = message-tells-the-build;
+      measurement-tells-the-build = measurement-tells-the-build;
       attest-is-hmac = attest-is-hmac;
       verify-is-hmac = verify-is-hmac;
       key-stays = key-stays;
