@@ -1,6 +1,6 @@
 -- What a measurement tells of a build. Request #105: "Two builds differed only in the write right and came out with one measurement."
--- Entries, mapping words and pages are told. Tables, spares, insecure mappings and page numbers are not measured, so no message tells of them.
--- Assumes nothing.
+-- The paper: "any change in an enclave's layout will be reflected in the hash." Entries, mapping words and pages are told. Tables, spares,
+-- insecure mappings and page numbers are not measured, so no message tells of them. Assumes nothing.
 use Prim.Native.Nat.{ℕ}
 use mathlib.Core.Path.{_≡_}
 use mathlib.Core.Bool.{_&&_}
