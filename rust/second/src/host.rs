@@ -90,7 +90,7 @@ impl Monitor<'_> {
         self.memory[self.machine.words_of(data)].copy_from_slice(&copied);
         self.memory[place] = self.leaf(data, mapping);
         self.ledger.pages[data] = Page::Data { owner, mapping };
-        self.measure(owner, &head(DATA_HEAD, mapping.address()));
+        self.measure(owner, &head(DATA_HEAD, mapping.0));
         self.measure(owner, &copied);
         done()
     }

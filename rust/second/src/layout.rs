@@ -16,7 +16,8 @@ pub const MOST_CALLS: usize = 512;
 pub const HASH_WORDS: usize = 8;
 /// Words in a block of the hash.
 pub const BLOCK_WORDS: usize = 16;
-/// Blocks that a data page is measured by: one for its address, then its words.
+/// Blocks that a data page is measured by: one for its mapping word, then its
+/// words.
 pub const DATA_BLOCKS: u32 = 1 + (FRAME_WORDS / BLOCK_WORDS) as u32;
 /// Registers of a thread; the last is where it runs.
 pub const REGISTERS: usize = 16;

@@ -57,7 +57,7 @@ impl Mapping {
         self.0 & EXECUTE != 0
     }
 
-    /// The page address, rights cleared: what is measured.
+    /// The page address, rights cleared.
     pub fn address(self) -> u32 {
         self.0 & PAGE_ADDRESS
     }

@@ -102,11 +102,11 @@ fn row_4(shift: &mut Shift) {
     shift.gives(&[9, 4], &[5]);
 }
 
-/// The measurement as the hash of the whole message: page 3 at 4096 with the
-/// words of frame 5, then the thread with entry 4096.
+/// The measurement as the hash of the whole message: page 3 with mapping word
+/// 4099 and the words of frame 5, then the thread with entry 4096.
 fn measurement(shift: &Shift) -> Hash {
     let mut message = vec![0; 16];
-    message[..2].copy_from_slice(&[2, 4096]);
+    message[..2].copy_from_slice(&[2, 4099]);
     message.extend(&shift.memory[5 * FRAME_WORDS..6 * FRAME_WORDS]);
     message.extend([1, 4096].iter().chain(&[0; 14]));
     digest(&bytes(&message))
