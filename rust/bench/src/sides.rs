@@ -2,6 +2,7 @@
 
 use crate::boxes::{all_done, Lent};
 use crate::meter::Side;
+use crate::plain::{self, Folded, Plain};
 use second::{Machine, DONE};
 use std::hint::black_box;
 
@@ -30,6 +31,9 @@ pub fn batch(
 ) -> u32 {
     monitor::words::batch(numbers(m), memory, ledger, calls, answers)
 }
+
+/// The sides of a row of calls: the library, then the plain twins.
+pub const BATCHES: [Batch; 3] = [batch, plain::batch::<Plain>, plain::batch::<Folded>];
 
 /// Acceptance of a box, which says yes.
 pub struct Accepting<'b> {
@@ -67,6 +71,20 @@ impl<'b> Batching<'b> {
         assert!(all_done(&self.answers), "each call is done");
         &self.answers
     }
+
+    /// The box as the last run left it.
+    pub fn left(&self) -> &Lent {
+        &self.lent
+    }
+}
+
+/// Whether the last runs did the same: each side gave the same answers and left
+/// the same words, those of the hash among them.
+pub fn agree(sides: &[Batching]) -> bool {
+    let same = |pair: &[Batching]| {
+        pair[0].answers() == pair[1].answers() && pair[0].left() == pair[1].left()
+    };
+    sides.windows(2).all(same)
 }
 
 impl Side for Batching<'_> {

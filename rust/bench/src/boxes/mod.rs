@@ -10,7 +10,7 @@ use second::shift::record;
 use second::{Machine, DONE};
 
 /// The words of a box.
-#[derive(Clone)]
+#[derive(Clone, PartialEq)]
 pub struct Lent {
     /// Its numbers.
     pub machine: Machine,

@@ -194,15 +194,15 @@ impl<R: Reading> Twin<'_, R> {
         self.memory[slot] = self.leaf(page, map);
         self.take_page(space, page, kind::DATA);
         *self.word(page, word::MAPPING) = map;
-        self.measure(space, Mapping(map).address(), to);
+        self.measure(space, map, to);
         Ok(())
     }
 
-    fn measure(&mut self, space: u32, address: u32, page: usize) {
+    fn measure(&mut self, space: u32, map: u32, page: usize) {
         let mut hash: sha::Hash =
             self.record(space)[word::HASH..word::HASH_END].try_into().expect("a hash");
         let mut head = [0; BLOCK_WORDS];
-        head[..2].copy_from_slice(&[2, address]);
+        head[..2].copy_from_slice(&[2, map]);
         sha::compress(&mut hash, &head);
         sha::absorb(&mut hash, &self.memory[page..page + FRAME_WORDS]);
         self.record(space)[word::HASH..word::HASH_END].copy_from_slice(&hash);

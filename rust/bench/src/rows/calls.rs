@@ -5,20 +5,18 @@ use super::Row;
 use crate::lists::Work;
 use crate::meter::{Meter, Side};
 use crate::paid::Paid;
-use crate::plain::{self, Folded, Plain};
-use crate::sides::{batch, Batch, Batching};
+use crate::sides::{agree, batch, Batching, BATCHES};
 
 /// The row of a list, for each call or pair of calls, and what is paid for it.
 pub fn rows(meter: &Meter, work: &Work) -> (Row, Paid) {
-    let batches: [Batch; 3] = [batch, plain::batch::<Plain>, plain::batch::<Folded>];
-    let sides = |calls| batches.map(|batch| Batching::new(&work.lent, vec![calls], batch));
+    let sides = |calls| BATCHES.map(|batch| Batching::new(&work.lent, vec![calls], batch));
     let (mut whole, mut empty) = (sides(&work.calls[..]), sides(&[]));
     let mut alone = Batching::new(&work.lent, work.alone(), batch);
     let all = whole.iter_mut().chain(&mut empty).chain([&mut alone]);
     let costs = meter.measure(&mut all.map(|side| side as &mut dyn Side).collect::<Vec<_>>());
-    let answers = whole[0].answers();
-    assert!(whole.iter().all(|side| side.answers() == answers), "all sides do the same");
-    assert!(answers.starts_with(alone.answers()), "a list cut in two gives the same");
+    assert!(agree(&whole), "all sides do the same");
+    let cut = alone.answers();
+    assert!(whole[0].answers().starts_with(cut), "a list cut in two gives the same");
     let [whole, empty] = [&costs[..3], &costs[3..6]];
     let cost = |side: usize| (whole[side] - empty[side]) / work.times as f64;
     let (name, paper) = (work.name.into(), work.paper);
