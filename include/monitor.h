@@ -42,9 +42,9 @@
 #define MONITOR_SYSV __attribute__((sysv_abi))
 
 #define MONITOR_VERSION_MAJOR 0
-#define MONITOR_VERSION_MINOR 1
-#define MONITOR_VERSION_PATCH 1
-#define MONITOR_VERSION "0.1.1"
+#define MONITOR_VERSION_MINOR 2
+#define MONITOR_VERSION_PATCH 0
+#define MONITOR_VERSION "0.2.0"
 
 #ifdef __cplusplus
 extern "C" {
@@ -87,7 +87,7 @@ enum monitor_call {
     MONITOR_INIT_THREAD = 3,      /* space, page, entry */
     MONITOR_INIT_TABLE = 4,       /* InitL2PTable: space, page, index */
     MONITOR_ALLOC_SPARE = 5,      /* space, page */
-    MONITOR_MAP_SECURE = 6,       /* space, page, mapping word, frame */
+    MONITOR_MAP_SECURE = 6,       /* space, page, mapping word, frame; the mapping word and the words copied are measured */
     MONITOR_MAP_INSECURE = 7,     /* space, mapping word, frame */
     MONITOR_FINALISE = 8,         /* space */
     MONITOR_ENTER = 9,            /* thread, x, y, z */

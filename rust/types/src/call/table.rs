@@ -91,7 +91,8 @@ pub enum Call {
     /// 5: a spare page for a space that is not stopped.
     AllocSpare { space: u32, page: u32 } = 5 "AllocSpare"
         refused [NoSuchPage NotSpace WrongState NoSuchPage NotFree] else [DONE],
-    /// 6: a copy of an insecure frame as a data page; it is measured.
+    /// 6: a copy of an insecure frame as a data page; the mapping word and the
+    /// words are measured.
     MapSecure { space: u32, page: u32, map: Mapping, frame: u32 } = 6 "MapSecure"
         refused [NoSuchPage NotSpace WrongState NoSuchPage NotFree
             IllFormed NoTable SlotTaken NotInsecure] else [DONE],
