@@ -5,10 +5,11 @@ use differ::services::{Second, Services};
 use differ::tally::Tally;
 use second::calls::{number, Code};
 use second::layout::{
-    kind, record_of, state, word, FRAME_WORDS, HASH_WORDS, HEADER_WORDS, MAP_END, MOST_CALLS,
-    MOST_PAGES, RECORD_WORDS, SAVED_WORDS,
+    kind, record_of, state, word, BLOCK_WORDS, FRAME_WORDS, HASH_WORDS, HEADER_WORDS, MAP_END,
+    MOST_CALLS, MOST_PAGES, RECORD_WORDS, SAVED_WORDS,
 };
-use second::{accepts, batch, boot, Machine, DONE, UNFIT};
+use second::mapping::{Leaf, Mapping, EXECUTE};
+use second::{accepts, batch, boot, sha, Machine, DONE, UNFIT};
 
 type Boot = fn(Machine, &[u32], &mut [u32], &mut [u32]) -> u32;
 type Accepts = fn(Machine, &[u32], &[u32]) -> bool;
@@ -288,4 +289,101 @@ fn wrong_calls() {
             answer[1] = 1;
         }
     });
+}
+
+/// What a call has mapped: for which space, by which mapping word, to which
+/// frame; and the words that it copied.
+struct Mapped {
+    space: usize,
+    map: Mapping,
+    frame: u32,
+    words: Vec<u32>,
+}
+
+impl Mapped {
+    /// By a call that was done and left these words.
+    fn by(call: &[u32], m: Machine, memory: &[u32], ledger: &[u32]) -> Mapped {
+        let copied = |page: u32| memory[m.words_of(page as usize)].to_vec();
+        let owner = |page: u32| ledger[record_of(page as usize)][word::OWNER];
+        let (space, map, frame, words) = match call[0] {
+            number::MAP_SECURE => (call[1], call[3], m.secure + call[2], copied(call[2])),
+            number::MAP_INSECURE => (call[1], call[2], call[3], vec![]),
+            _ => (owner(call[1]), call[2], m.secure + call[1], vec![]),
+        };
+        Mapped { space: space as usize, map: Mapping(map), frame, words }
+    }
+
+    /// A message for the hash: a block with this as its second word, then the
+    /// words copied.
+    fn message(&self, second: u32) -> Vec<u32> {
+        [&[2, second][..], &[0; BLOCK_WORDS - 2], &self.words].concat()
+    }
+}
+
+/// Where a space's record has its hash.
+const HASH: std::ops::Range<usize> = word::HASH..word::HASH_END;
+
+/// After a batch of one record, a call of this number that was done: its
+/// space's hash is the one before with this message added.
+fn measured(
+    m: Machine,
+    memory: &mut [u32],
+    ledger: &mut [u32],
+    calls: &[u32],
+    answers: &mut [u32],
+    (number, message): (u32, fn(&Mapped) -> Vec<u32>),
+) -> u32 {
+    let before = ledger.to_vec();
+    let code = batch(m, memory, ledger, calls, answers);
+    if code == DONE && calls.len() == RECORD_WORDS && [calls[0], answers[0]] == [number, DONE] {
+        let mapped = Mapped::by(calls, m, memory, ledger);
+        let record = record_of(mapped.space);
+        let hash = before[record.clone()][HASH].try_into().expect("a hash");
+        ledger[record][HASH].copy_from_slice(&sha::add(hash, &message(&mapped)));
+    }
+    code
+}
+
+macro_rules! measures {
+    ($number:expr, $message:expr) => {
+        Flaw::Batch(|m, mem, led, calls, answers| {
+            measured(m, mem, led, calls, answers, ($number, $message))
+        })
+    };
+}
+
+#[test]
+fn wrong_measurements() {
+    let right = measures!(number::MAP_SECURE, |it| it.message(it.map.0));
+    assert_eq!(difference(&right, 8), None);
+    told_apart(
+        "measures the page address, rights cleared",
+        measures!(number::MAP_SECURE, |it| it.message(it.map.address())),
+    );
+    told_apart(
+        "measures the slot's word",
+        measures!(number::MAP_SECURE, |it| {
+            it.message(Leaf { frame: it.frame, rights: it.map.rights() }.word())
+        }),
+    );
+    told_apart(
+        "measures the mapping word as the second of the words copied",
+        measures!(number::MAP_SECURE, |it| {
+            let mut message = it.message(it.map.address());
+            message[BLOCK_WORDS + 1] = it.map.0;
+            message
+        }),
+    );
+    told_apart(
+        "leaves the execute right out",
+        measures!(number::MAP_SECURE, |it| it.message(it.map.0 & !EXECUTE)),
+    );
+    told_apart(
+        "measures the mapping word of MapInsecure",
+        measures!(number::MAP_INSECURE, |it| it.message(it.map.0)),
+    );
+    told_apart(
+        "measures the mapping word of MapData",
+        measures!(number::MAP_DATA, |it| it.message(it.map.0)),
+    );
 }
