@@ -29,17 +29,25 @@ fn a_space_of_nothing_measures_the_hash_of_nothing() {
     assert_eq!(said("2 0 1;"), lines.join("\n"));
 }
 
-/// The page's address and words, then the thread's entry, as blocks.
+/// The page's mapping word and words, then the thread's entry, as blocks.
 #[test]
 fn the_hash_is_of_what_was_mapped() {
     let mut words = vec![0; 16 + 1024 + 16];
-    words[..2].copy_from_slice(&[2, 4096]);
+    words[..2].copy_from_slice(&[2, 4099]);
     words[16..1040].copy_from_slice(&(5 * 1024..6 * 1024).collect::<Vec<u32>>());
     words[1040..1042].copy_from_slice(&[1, 4096]);
     let bytes: Vec<u8> = words.iter().flat_map(|word| word.to_be_bytes()).collect();
     let hash = second::sha::digest(&bytes).map(|word| format!("{word:08x}")).concat();
     assert!(said(BUILD).contains(&hash));
     assert!(measure::building(&played(BUILD)).contains(&hash));
+}
+
+/// Two plans that differ in one right.
+#[test]
+fn another_right_is_another_measurement() {
+    let readable = BUILD.replace("4099", "4097");
+    assert_ne!(said(BUILD), said(&readable));
+    assert_ne!(measure::building(&played(BUILD)), measure::building(&played(&readable)));
 }
 
 /// What is said as words is what Verify takes: Attest's MAC is right for them.
