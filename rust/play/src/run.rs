@@ -1,6 +1,7 @@
 //! Plays a plan and prints its answers, or what its spaces measure, or draws
 //! the box after it.
 
+use crate::measure::Steps;
 use crate::picture::picture;
 use crate::player::Player;
 use crate::svg::svg;
@@ -46,14 +47,16 @@ pub fn run(asked: &Run, text: &Text, colour: bool, out: &mut impl Write) -> Resu
 /// expects them.
 pub fn measure(fresh: &Fresh, text: &Text, out: &mut impl Write) -> Result<bool, Stop> {
     let mut player = Player::new(text, fresh)?;
+    let mut steps = Steps::default();
     player.watched(|played, bench| {
-        let line = |call| measure::line(call, &played.answer, bench.ledger());
-        match played.call.as_ref().and_then(line) {
+        let Some(call) = &played.call else { return Ok(()) };
+        steps.note(call, &played.answer, bench);
+        match measure::line(call, &played.answer, bench.ledger(), &steps) {
             None => Ok(()),
             Some(line) => Ok(writeln!(out, "{line}").and_then(|()| out.flush())?),
         }
     })?;
-    out.write_all(measure::building(player.bench()).as_bytes())?;
+    out.write_all(measure::building(player.bench(), &steps).as_bytes())?;
     out.flush()?;
     Ok(player.met())
 }
