@@ -1,5 +1,5 @@
 -- A measurement tells the build: its message is that of the steps, and no two lists of steps have one message. Assumes nothing.
-use Prim.Native.Nat.{ℕ}
+use Prim.Native.Nat.{ℕ, _%_}
 use mathlib.Core.Path.{_≡_, refl, sym, ap, ap₂, _∙_}
 use mathlib.Core.Bool.{Bool, true, false, _&&_}
 use mathlib.Core.Logic.{_⊎_, inl, inr}
@@ -14,11 +14,11 @@ use Rattle.words.specs.Words.{pick}
 use Rattle.words.proofs.Zero.{both}
 use Rattle.machine.specs.declared.Machine.{Machine}
 use Rattle.machine.specs.Machine.{frameWords}
-use Rattle.mapping.specs.Mapping.{rightsOf}
 use Rattle.sha256.specs.Sha256.{sha256}
 use Rattle.ledger.specs.Names.{building}
 use Rattle.ledger.specs.Ledger.{stateOf, hash}
 use Rattle.memory.specs.Memory.{wordsOf}
+use Rattle.memory.proofs.Frames.{wordsOf-at}
 use Rattle.accept.specs.Accept.{Accepted}
 use Rattle.building.specs.Calls.{threadBlock, mapBlock, initThread, mapSecure}
 use Rattle.building.proofs.Laws.{passes-init-thread, passes-map-secure}
@@ -69,15 +69,13 @@ whole-after [] t u v = v
 whole-after (entry e ∷ s) t u v = whole-after s t u v
 whole-after (page map ws ∷ s) t u v = (u .0, whole-after s t (u .1) v)
 
--- a right more or less is seen in the words of its page's block
-rights-told : (s t : List Step) (map map' : ℕ) (ws : List ℕ) → (rightsOf map ≡ rightsOf map' → ⊥)
+-- a right more or less is seen in its page's block
+rights-told : (s t : List Step) (map map' : ℕ) (ws : List ℕ) → (map % 8 ≡ map' % 8 → ⊥)
     → message (s ++ page map ws ∷ t) ≡ message (s ++ page map' ws ∷ t) → ⊥
 unfolding message
-rights-told s t map map' ws n e =
-    let rest =
-    append-cancel-left (message s) (message (page map ws ∷ t)) (message (page map' ws ∷ t))
-    (sym (message-after s (page map ws ∷ t)) ∙ e ∙ message-after s (page map' ws ∷ t)) in
-    n (ap rightsOf (word 1 rest))
+rights-told [] t map map' ws n e = n (ap (λ (v : ℕ). v % 8) (word 1 e))
+rights-told (entry x ∷ s) t map map' ws n e = rights-told s t map map' ws n (ap (drop 16) e)
+rights-told (page x vs ∷ s) t map map' ws n e = rights-told s t map map' ws n (append-cancel-left vs _ _ (ap (drop 16) e))
 
 -- ---- along a history
 -- steps more, while the space is built
@@ -151,7 +149,7 @@ built b M₀ L₀ M L a ok (called M₁ L₁ W h) =
 built b M₀ L₀ M L a ok (outside M₁ M₂ L₁ h x) = built b M₀ L₀ M₁ L₁ a ok h
 
 pub message-tells-the-build : MessageTellsTheBuild
-message-tells-the-build = record { map-block = λ map. refl; built = built; same-steps = same-steps; rights = rights-told }
+message-tells-the-build = record { map-block = λ map. refl; words = wordsOf-at; built = built; same-steps = same-steps; rights = rights-told }
 
 -- ---- two measurements
 spelled : {L : List ℕ} {a : ℕ} {s : List Step} {m : List ℕ} → Finished L a s m → Spells s m × (hash L a ≡ sha256 m)

@@ -1,20 +1,19 @@
 -- What a measurement tells of a build. Request #105: "Two builds differed only in the write right and came out with one measurement."
--- The paper: "any change in an enclave's layout will be reflected in the hash." Entries, mapping words and pages are told. Tables, spares,
--- insecure mappings and page numbers are not measured, so no message tells of them. Assumes nothing.
-use Prim.Native.Nat.{ℕ}
+-- The paper: "any change in an enclave's layout will be reflected in the hash." Entries, mapping words and the words copied are told. Tables,
+-- spares, insecure mappings and page numbers are not measured, so no message tells of them. Assumes nothing.
+use Prim.Native.Nat.{ℕ, _<_, _%_}
 use mathlib.Core.Path.{_≡_}
 use mathlib.Core.Bool.{_&&_}
 use mathlib.Core.Logic.{_⊎_}
 use mathlib.Core.List.{List, [], _∷_, _++_}
 use lib.Dec.{eqb}
-use lib.ListN.{length, replicate}
+use lib.ListN.{length, getD, replicate}
 use Rattle.words.specs.Words.{pick}
 use Rattle.machine.specs.declared.Machine.{Machine}
 use Rattle.machine.specs.Machine.{frameWords}
-use Rattle.mapping.specs.Mapping.{rightsOf}
 use Rattle.sha256.specs.Sha256.{sha256}
 use Rattle.ledger.specs.Ledger.{hash}
-use Rattle.memory.specs.Memory.{wordsOf}
+use Rattle.memory.specs.Memory.{frame, wordsOf}
 use Rattle.accept.specs.Accept.{Accepted}
 use Rattle.building.specs.Calls.{threadBlock, mapBlock}
 use Rattle.records.specs.Records.{arg}
@@ -59,7 +58,7 @@ pub record Spells (s : List Step) (m : List ℕ) : Type 0 where
   pub whole : Whole s
   pub words : m ≡ message s
 
--- whatever is measured of a build are the words of these steps
+-- the words measured of a build are those of these steps
 abbrev pub Built : List Step → Build → Type 0
 Built s unbegun = Unit {0}
 Built s (begun m) = Spells s m
@@ -69,15 +68,17 @@ Built s (closed m) = Spells s m
 pub record MessageTellsTheBuild : Type 0 where
   -- "MapSecure's second measured word becomes the whole mapping word."
   pub map-block : (map : ℕ) → mapBlock map ≡ 2 ∷ map ∷ replicate 14 0
-  -- along any history from an accepted state, what is measured of a page is the message of its steps
+  -- "then the 1,024 words copied": word by word those of the frame
+  pub words : (M : List ℕ) (g k : ℕ) → k < frameWords → getD (wordsOf M g) k 0 ≡ frame M g k
+  -- along any history from an accepted state, what is measured of a space that it began is the message of the space's steps
   pub built : (b : Machine) (M₀ L₀ M L : List ℕ) (a : ℕ) → Accepted b M₀ L₀ → (h : History b M₀ L₀ M L) → Built (stepsOf a h) (buildOf a h)
   -- two lists of steps with one message are the same list
   pub same-steps : (s t : List Step) → Whole s → Whole t → message s ≡ message t → s ≡ t
-  -- so two builds that differ in a right have two messages
-  pub rights : (s t : List Step) (map map' : ℕ) (ws : List ℕ) → (rightsOf map ≡ rightsOf map' → ⊥)
+  -- so two builds that differ in the rights of a page have two messages, though all else is alike
+  pub rights : (s t : List Step) (map map' : ℕ) (ws : List ℕ) → (map % 8 ≡ map' % 8 → ⊥)
       → message (s ++ page map ws ∷ t) ≡ message (s ++ page map' ws ∷ t) → ⊥
 
--- space a of ledger L was made by the steps s and finalised, along a history from an accepted state; m are the words measured
+-- space a of ledger L was begun, made by the steps s and finalised, along a history from an accepted state; m are the words measured
 pub record Finished (L : List ℕ) (a : ℕ) (s : List Step) (m : List ℕ) : Type 0 where
   pub machine : Machine
   pub M₀ : List ℕ
@@ -88,12 +89,12 @@ pub record Finished (L : List ℕ) (a : ℕ) (s : List Step) (m : List ℕ) : Ty
   pub steps : stepsOf a history ≡ s
   pub words : buildOf a history ≡ closed m
 
--- two messages, and one SHA-256
+-- two messages, and one SHA-256: a collision, where all their words are below 2^32, as those that are lent are
 pub record Collide (m m' : List ℕ) : Type 0 where
   pub two : m ≡ m' → ⊥
   pub one : sha256 m ≡ sha256 m'
 
--- two finalised spaces with one measurement, on whatever boxes: the same steps have made them, or SHA-256 has a collision, here in hand
+-- two such spaces with one measurement, on whatever boxes: the same steps have made them, or two messages with one SHA-256 are in hand
 abbrev pub MeasurementTellsTheBuild : Type 0
 MeasurementTellsTheBuild =
     (L L' : List ℕ) (a a' : ℕ) (s s' : List Step) (m m' : List ℕ) → Finished L a s m → Finished L' a' s' m' → hash L a ≡ hash L' a'
