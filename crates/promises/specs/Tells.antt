@@ -58,7 +58,7 @@ pub record Spells (s : List Step) (m : List ℕ) : Type 0 where
   pub whole : Whole s
   pub words : m ≡ message s
 
--- the words measured of a build are those of these steps
+-- the words measured of a build are those of these steps; of a page on which the history began no space nothing is said
 abbrev pub Built : List Step → Build → Type 0
 Built s unbegun = Unit {0}
 Built s (begun m) = Spells s m
