@@ -1,11 +1,14 @@
-// A mapping word is a type of its own, and answers for itself.
+// A mapping word is a type of its own, and answers for itself. A legal entry is an address at which a thread may start.
 
 ghost use mathlib.Core.Path.{_≡_};
 ghost use Rattle.mapping.specs.Mapping.{indexOf, slotOf, rightsOf, addressOf, writes, executes, wellFormed};
+ghost use Rattle.mapping.specs.Entry.{legalEntry};
 
 pub struct Mapping(pub u32);
 
-// The bytes of a page, and of what one table maps.
+// The bytes of a word, of a page, and of what one table maps.
+pub const WORD_BYTES: u32 = 4;
+
 pub const PAGE_BYTES: u32 = 4096;
 
 pub const TABLE_BYTES: u32 = 4194304;
@@ -78,4 +81,14 @@ impl Mapping {
         }
         self.0 < ADDRESS_END
     }
+}
+
+// Is it a multiple of 4 below 2^30?
+pub fn legal_entry(entry: u32) -> bool
+    ensures { λ r. ⌜ r ≡ legalEntry entry ⌝ }
+{
+    if entry % WORD_BYTES != 0 {
+        return false;
+    }
+    entry < ADDRESS_END
 }

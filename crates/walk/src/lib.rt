@@ -3,6 +3,7 @@
 use mapping::ADDRESS_END;
 use mapping::Mapping;
 use mapping::PAGE_BYTES;
+use mapping::WORD_BYTES;
 ghost use mathlib.Core.Path.{_≡_};
 ghost use Prim.Native.Nat.{_+_, _<_, _^_};
 ghost use Rattle.mapping.specs.Mapping.{rightsEnd};
@@ -22,9 +23,6 @@ pub enum Translated {
 
 // The levels of the tables: a first-level page stands on the second.
 pub const LEVELS: u32 = 2;
-
-// The bytes of a word.
-pub const WORD_BYTES: u32 = 4;
 
 // The frame that a slot names, and the word of it that an address names.
 pub fn slot_frame(v: u32) -> usize
