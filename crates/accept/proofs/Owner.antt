@@ -23,8 +23,12 @@ module _ (w : Words) (p : ℕ) {a v : ℕ} (own : a ≡ w p 1) (state : v ≡ w 
   pub links-says : (P : ℕ → Type 0) → (v ≡ stopped → ⊥) → (q : Bool) → Says q (P a) → Says q (Going w p → P (w p 1))
   links-says P n q = says-same q (λ x g. subst P own x) (λ x. subst P (sym own) (x (λ e. n (owner-word w state own ∙ e))))
 
+-- what a test said of a word that was read
+pub test-is : (f : ℕ → Bool) {r t : Bool} {x y : ℕ} → r ≡ f x → x ≡ y → r ≡ t → f y ≡ t
+test-is f e q g = cc
+
 pub formed-is : {r t : Bool} {x y : ℕ} → r ≡ wellFormed x → x ≡ y → r ≡ t → wellFormed y ≡ t
-formed-is e q f = cc
+formed-is = test-is wellFormed
 
 -- ---- the running word v is not 0
 module _ {b : Machine} {w : Words} {v r : ℕ} (e : v ≡ r) (full : v ≡ 0 → ⊥) where

@@ -13,7 +13,8 @@ use Rattle.words.specs.Words.{Says, sumBelow, pick, recordWords, wordBits}
 use Rattle.machine.specs.declared.Machine.{Machine}
 use Rattle.machine.specs.Machine.{frameWords, headerWords, Insecure, Lent, mapWords, mapStart}
 use Rattle.mapping.specs.Mapping.{indexOf, slotOf, rightsOf, wellFormed, rightsEnd, executeRight, mostTables, pageBytes, tableBytes}
-use Rattle.ledger.specs.Names.{freeEnd, types, states, runningWord, free, space, thread, firstLevel, secondLevel, dataPage, spare, building, final, stopped, blocksWord, countWord, dataBlocks, firstPageWord, flagsWord, indexWord, mappingWord, namedEnd, ownedEnd, ownerWord, registersWord, spaceEnd, stateWord, suspendedWord, threadEnd, typeWord}
+use Rattle.mapping.specs.Entry.{legalEntry}
+use Rattle.ledger.specs.Names.{freeEnd, types, states, runningWord, free, space, thread, firstLevel, secondLevel, dataPage, spare, building, final, stopped, blocksWord, countWord, dataBlocks, entryWord, firstPageWord, flagsWord, indexWord, mappingWord, namedEnd, ownedEnd, ownerWord, registersWord, spaceEnd, stateWord, suspendedWord, threadEnd, typeWord}
 use Rattle.ledger.specs.Ledger.{header, rec}
 use Rattle.memory.specs.Memory.{frame}
 use Rattle.walk.specs.Walk.{slotWord}
@@ -36,6 +37,8 @@ pub record SpaceRec (n p : ℕ) (r : ℕ → ℕ) : Type 0 where
 
 -- 2 thread: 2 entry point; 3 suspended 0/1; 4-19 r0-r15; 20 flags (low 28 bits 0)
 pub record ThreadRec (r : ℕ → ℕ) : Type 0 where
+  -- #103: "Acceptance demands the same of every thread."
+  pub entry : legalEntry (r entryWord) ≡ true
   pub suspended : r suspendedWord < 2
   pub flags : r flagsWord % 2 ^ 28 ≡ 0
   pub rest : Zeros r threadEnd recordWords

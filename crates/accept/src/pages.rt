@@ -7,6 +7,7 @@ use crate::links::reached;
 use crate::links::second_links;
 use ledger::BUILDING;
 use ledger::DATA;
+use ledger::ENTRY;
 use ledger::FIRST_LEVEL;
 use ledger::FIRST_PAGE;
 use ledger::FLAG;
@@ -33,6 +34,7 @@ use ledger::word;
 use machine::HEADER_WORDS;
 use machine::Machine;
 use mapping::MOST_TABLES;
+use mapping::legal_entry;
 use words::RECORD_WORDS;
 use words::all_zero;
 ghost use Prim.Native.Nat.{_+_, _*_, _≤_};
@@ -123,12 +125,16 @@ fn space_page(b: Machine, mem: &[u32], led: &[u32], p: u32) -> bool
     is_page(b, led, p, FIRST_LEVEL, word(led, p, FIRST_PAGE))
 }
 
-// Of a thread whose words after the flags are zero: are its registers zero unless it is suspended, and is its owner not building if it is?
+// Of a thread whose words after the flags are zero: may it start at its entry, are its registers zero unless it is suspended, and is its owner
+// not building if it is?
 fn thread_rules(led: &[u32], p: u32) -> bool
     requires { ⌜ headerWords + recordWords * p + recordWords ≤ length (now led) ⌝ }
     requires { ⌜ Zeros (rec (now led) p) threadEnd recordWords ⌝ }
     ensures { λ r. ⌜ Says r (ThreadRules (rec (now (led .entry))) p) ⌝ }
 {
+    if !legal_entry(word(led, p, ENTRY)) {
+        return false;
+    }
     if word(led, p, FLAGS) % FLAG != 0 {
         return false;
     }

@@ -16,6 +16,7 @@ use machine::Machine;
 use mapping::MOST_TABLES;
 use mapping::Mapping;
 pub use refusals::ALREADY_FREE;
+pub use refusals::BAD_ENTRY;
 pub use refusals::BAD_RECORD;
 pub use refusals::FAULTED;
 pub use refusals::ILL_FITTING;

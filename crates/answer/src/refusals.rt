@@ -42,6 +42,8 @@ pub const NO_SUCH_INDEX: u32 = 21;
 
 pub const ALREADY_FREE: u32 = 22;
 
+pub const BAD_ENTRY: u32 = 23;
+
 pub const INTERRUPTED: u32 = 32;
 
 pub const FAULTED: u32 = 33;

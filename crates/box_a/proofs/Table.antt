@@ -5,6 +5,7 @@ use mathlib.Core.List.{[], _∷_}
 use Rattle.words.specs.Words.{bit, padded, bitOff, bitOn, sumBelow, leastBelow, paste, or, listBelow, allZero}
 use Rattle.machine.specs.Machine.{insecure}
 use Rattle.mapping.specs.Mapping.{wellFormed}
+use Rattle.mapping.specs.Entry.{legalEntry}
 use Rattle.sha256.specs.Sha256.{H0}
 use Rattle.ledger.specs.Ledger.{header, rec, mapBit, putHeader, put, puts, anew, mapOff, mapOn, occupy, vacate, gain, lose, eight, putHash, measure, run}
 use Rattle.memory.specs.Memory.{frame, wordsOf, putWord, copied, wiped}
@@ -21,5 +22,5 @@ use Rattle.boot.specs.Boot.{freshMap, freshLedger, freshMemory}
 use Rattle.box_a.specs.Shift.{row1, row2, row3, row4, row5, row6, row7, row8, shift, asked, answered, played, Shift}
 
 pub table : (k0 k1 k2 k3 k4 k5 k6 k7 v : ℕ) → Shift (k0 ∷ k1 ∷ k2 ∷ k3 ∷ k4 ∷ k5 ∷ k6 ∷ k7 ∷ []) v
-unfolding insecure wellFormed header rec bit mapBit putHeader put puts padded anew bitOff bitOn mapOff mapOn occupy vacate gain lose eight putHash measure run sumBelow leastBelow frame wordsOf putWord paste copied wiped walk translate filled mapped linked addrCode indexCode or unless asCode pgCode buildingCode isFree mapWord getPhysPages initAddrSpaceCode newSpace initAddrSpace initThreadCode newThread initThread initTableCode newTable initTable mapSecureCode newData mapSecure finalised finalise threadCode enterCode enterThread resumeCode resume stop removeSpaceCode removeOtherCode removeCode left remove freeCount lowestFree freePages exit interrupt fault load store H0 listBelow freshMap freshLedger freshMemory calls lookup allZero turnCode formCode obey after batch row1 row2 row3 row4 row5 row6 row7 row8 shift asked answered played
+unfolding insecure wellFormed legalEntry header rec bit mapBit putHeader put puts padded anew bitOff bitOn mapOff mapOn occupy vacate gain lose eight putHash measure run sumBelow leastBelow frame wordsOf putWord paste copied wiped walk translate filled mapped linked addrCode indexCode or unless asCode pgCode buildingCode isFree mapWord getPhysPages initAddrSpaceCode newSpace initAddrSpace initThreadCode newThread initThread initTableCode newTable initTable mapSecureCode newData mapSecure finalised finalise threadCode enterCode enterThread resumeCode resume stop removeSpaceCode removeOtherCode removeCode left remove freeCount lowestFree freePages exit interrupt fault load store H0 listBelow freshMap freshLedger freshMemory calls lookup allZero turnCode formCode obey after batch row1 row2 row3 row4 row5 row6 row7 row8 shift asked answered played
 table k0 k1 k2 k3 k4 k5 k6 k7 v = record { answers = refl; slot = refl; blocks = refl; owned = refl; free-word = refl }

@@ -8,6 +8,7 @@ use Rattle.machine.specs.declared.Machine.{Machine}
 use Rattle.machine.specs.Machine.{Insecure, insecure}
 use Rattle.machine.proofs.Laws.{insecure-holds}
 use Rattle.mapping.specs.Mapping.{executes, wellFormed}
+use Rattle.mapping.specs.Entry.{legalEntry}
 use Rattle.ledger.specs.Names.{free, space, building, stopped}
 use Rattle.ledger.specs.Ledger.{rec}
 use Rattle.memory.specs.Memory.{frame}
@@ -29,14 +30,15 @@ module _ (b : Machine) (L : List ℕ) where
       (in-range (b .pages) a 0 (x .0), in-range (b .pages) f 0 (y .0), is (rec L a 0) free 1 (z .0), is (rec L f 0) free 1 (u .0), is-not a f 1 (u .1))
 
   -- ---- 3 InitThread
-  pub passes-init-thread : (a t : ℕ) → initThreadCode b L a t ≡ 0
-      → (a < b .pages) × (rec L a 0 ≡ space) × (rec L a 3 ≡ building) × (t < b .pages) × (rec L t 0 ≡ free)
+  pub passes-init-thread : (a t entry : ℕ) → initThreadCode b L a t entry ≡ 0
+      → (a < b .pages) × (rec L a 0 ≡ space) × (rec L a 3 ≡ building) × (t < b .pages) × (rec L t 0 ≡ free) × (legalEntry entry ≡ true)
   unfolding initThreadCode
-  passes-init-thread a t e =
+  passes-init-thread a t entry e =
       let x = or-none e in
+      let y = or-none (x .1) in
       let s = passes-building b L a (x .0) in
-      let p = passes-pg b L t (x .1) in
-      (s .0, s .1, s .2, p .0, p .1)
+      let p = passes-pg b L t (y .0) in
+      (s .0, s .1, s .2, p .0, p .1, passes-not (legalEntry entry) 22 (y .1))
 
   -- ---- 5 AllocSpare
   pub passes-alloc-spare : (a p : ℕ) → allocSpareCode b L a p ≡ 0

@@ -9,6 +9,7 @@ use Rattle.words.specs.Words.{when, first}
 use Rattle.machine.specs.declared.Machine.{Machine}
 use Rattle.machine.specs.Machine.{insecure}
 use Rattle.mapping.specs.Mapping.{rightsOf, executes, wellFormed}
+use Rattle.mapping.specs.Entry.{legalEntry}
 use Rattle.sha256.specs.Sha256.{H0, compress, absorb, finish}
 use Rattle.ledger.specs.Names.{stateWord, dataBlocks, free, space, thread, firstLevel, secondLevel, dataPage, spare, building, final, stopped}
 use Rattle.ledger.specs.Ledger.{typeOf, firstOf, stateOf, blocksOf, hash, put, occupy, gain, putHash, measure}
@@ -16,7 +17,7 @@ use Rattle.memory.specs.Memory.{wordsOf, copied}
 use Rattle.walk.specs.Walk.{filled, mapped, linked, slotWord}
 use Rattle.answer.specs.declared.Regs.{Regs}
 use Rattle.answer.specs.declared.Answer.the-variants.{Pair, Runs}
-use Rattle.answer.specs.Refusals.{noSuchPage, notFree, wrongState, illFormed, notInsecure}
+use Rattle.answer.specs.Refusals.{noSuchPage, notFree, wrongState, illFormed, notInsecure, badEntry}
 use Rattle.answer.specs.Answer.{Out, done, call, asCode, pgCode, buildingCode, addrCode, indexCode}
 
 -- ---- 2 InitAddrSpace a, f: "either ≥ n 1; either not free, or a = f, 2"
@@ -39,12 +40,13 @@ newSpace L a f =
 unfoldable pub initAddrSpace : Machine → List ℕ → List ℕ → ℕ → ℕ → Out
 initAddrSpace b M L a f = call (initAddrSpaceCode b L a f) M L (done M (newSpace L a f))
 
--- ---- 3 InitThread a, t, entry: "AS; not building 4; PG"
-unfoldable pub initThreadCode : Machine → List ℕ → ℕ → ℕ → ℕ
-initThreadCode b L a t =
+-- ---- 3 InitThread a, t, entry: "AS; not building 4; PG". #103: then 23 "when the entry isn't a multiple of 4 or is at or above 2^30"
+unfoldable pub initThreadCode : Machine → List ℕ → ℕ → ℕ → ℕ → ℕ
+initThreadCode b L a t entry =
     first
     (buildingCode b L a
     ∷ pgCode b L t
+    ∷ when (not (legalEntry entry)) badEntry
     ∷ [])
 
 -- "A thread adds the 16 words 1, entry, zeros."
@@ -63,7 +65,7 @@ newThread L a t entry =
     measure L₂ a 1 (addThread (hash L a) entry)
 
 unfoldable pub initThread : Machine → List ℕ → List ℕ → ℕ → ℕ → ℕ → Out
-initThread b M L a t entry = call (initThreadCode b L a t) M L (done M (newThread L a t entry))
+initThread b M L a t entry = call (initThreadCode b L a t entry) M L (done M (newThread L a t entry))
 
 -- ---- 4 InitL2PTable a, p, i: "AS; 4; PG; i ≥ 256 21; taken 7"
 unfoldable pub initTableCode : Machine → List ℕ → List ℕ → ℕ → ℕ → ℕ → ℕ

@@ -1,6 +1,7 @@
 // Calls 2-8: an address space, its threads, tables, spare and data pages, its insecure mappings, its measurement.
 
 use answer::Answer;
+use answer::BAD_ENTRY;
 use answer::ILL_FORMED;
 use answer::NO_SUCH_PAGE;
 use answer::NOT_FREE;
@@ -37,6 +38,7 @@ use machine::FRAME_WORDS;
 use machine::Machine;
 use machine::insecure;
 use mapping::Mapping;
+use mapping::legal_entry;
 use sha256::absorb;
 use sha256::compress;
 use sha256::finish;
@@ -108,10 +110,13 @@ pub fn init_addr_space(b: Machine, led: &mut [u32], a: u32, f: u32) -> Answer
 
 // ---- 3 InitThread
 
-fn init_thread_code(b: Machine, led: &[u32], a: u32, t: u32) -> u32
-    ensures { λ r. ⌜ r ≡ initThreadCode b (now (led .entry)) a t ⌝ }
+fn init_thread_code(b: Machine, led: &[u32], a: u32, t: u32, entry: u32) -> u32
+    ensures { λ r. ⌜ r ≡ initThreadCode b (now (led .entry)) a t entry ⌝ }
 {
-    either(building_code(b, led, a), page_code(b, led, t))
+    either(
+        building_code(b, led, a),
+        either(page_code(b, led, t), refuse(!legal_entry(entry), BAD_ENTRY)),
+    )
 }
 
 fn thread_block(entry: u32) -> [u32; BLOCK]
@@ -143,7 +148,7 @@ fn new_thread(led: &mut [u32], a: u32, t: u32, entry: u32)
 pub fn init_thread(b: Machine, led: &mut [u32], a: u32, t: u32, entry: u32) -> Answer
     ensures { λ r. ⌜ ((M : List ℕ) → record { ans = numbers r; mem = M; led = now (led .exit) } ≡ initThread b M (now (led .entry)) a t entry) ⌝ }
 {
-    let code = init_thread_code(b, led, a, t);
+    let code = init_thread_code(b, led, a, t, entry);
     if code != 0 {
         return Answer::Refused(code);
     }

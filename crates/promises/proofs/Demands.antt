@@ -13,6 +13,7 @@ use Rattle.words.proofs.Says.{yes-holds, no-fails}
 use Rattle.machine.specs.declared.Machine.{Machine}
 use Rattle.machine.specs.Machine.{frameWords, insecure}
 use Rattle.mapping.specs.Mapping.{wellFormed}
+use Rattle.mapping.specs.Entry.{legalEntry}
 use Rattle.ledger.specs.Names.{building, final}
 use Rattle.ledger.specs.Ledger.{header, rec, put, puts, putHeader, anew, vacate, lose, mapOn}
 use Rattle.memory.specs.Memory.{putWord, wiped}
@@ -113,7 +114,7 @@ module _ (any : Any) where
     in-neighbours : YesGoing (neighbours any)
 
   good : Good
-  unfolding sumBelow padded listBelow bit bitOn insecure wellFormed header rec put puts putHeader anew vacate lose mapOn tally isFree mapWord page records ledgerOf ledgerOfTwo
+  unfolding sumBelow padded listBelow bit bitOn insecure wellFormed legalEntry header rec put puts putHeader anew vacate lose mapOn tally isFree mapWord page records ledgerOf ledgerOfTwo
   good =
       record {
         in-alone = yes-going one refl refl;
@@ -124,7 +125,7 @@ module _ (any : Any) where
       }
 
   lent-demands : LentDemands any
-  unfolding keeps memory frames sumBelow padded listBelow bit bitOn insecure wellFormed header rec put puts putHeader anew vacate lose mapOn tally isFree mapWord page records ledgerOf emptyA
+  unfolding keeps memory frames sumBelow padded listBelow bit bitOn insecure wellFormed legalEntry header rec put puts putHeader anew vacate lose mapOn tally isFree mapWord page records ledgerOf emptyA
   lent-demands =
       record {
         secure-below = (tested-no refl, tested-yes refl);
@@ -138,7 +139,7 @@ module _ (any : Any) where
       }
 
   layout-demands : LayoutDemands any
-  unfolding sumBelow padded listBelow bit bitOn insecure wellFormed header rec put puts putHeader anew vacate lose mapOn tally isFree mapWord page records ledgerOf ledgerOfTwo
+  unfolding sumBelow padded listBelow bit bitOn insecure wellFormed legalEntry header rec put puts putHeader anew vacate lose mapOn tally isFree mapWord page records ledgerOf ledgerOfTwo
   layout-demands =
       record {
         free-bit = (no-by one refl, no-by one refl, good .in-alone .if-building);
@@ -149,6 +150,8 @@ module _ (any : Any) where
         owns-itself = (no-by two refl, good .in-neighbours .if-building);
         states = (no-by one refl, good .in-alone .if-final);
         space-words = (no-by one refl, no-by one refl, good .in-alone .if-building);
+        entry-multiple = (no-by one refl, no-by one refl, no-by one refl, yes-by one refl, yes-by one refl);
+        entry-low = (no-by one refl, no-by one refl, yes-by one refl);
         suspended = (no-by one refl, good .in-suspended);
         flags = (no-by one refl, no-by one refl, yes-by one refl);
         thread-words = (no-by one refl, no-by one refl, good .in-suspended);
@@ -173,7 +176,7 @@ module _ (any : Any) where
       }
 
   count-demands : CountDemands any
-  unfolding sumBelow padded listBelow bit bitOn insecure wellFormed header rec put puts putHeader anew vacate lose mapOn tally isFree mapWord page records ledgerOf
+  unfolding sumBelow padded listBelow bit bitOn insecure wellFormed legalEntry header rec put puts putHeader anew vacate lose mapOn tally isFree mapWord page records ledgerOf
   count-demands =
       record {
         owners = (no-by one refl, no-by one refl, good .in-alone .if-building);
@@ -185,7 +188,7 @@ module _ (any : Any) where
       }
 
   link-demands : LinkDemands any
-  unfolding sumBelow padded listBelow bit bitOn insecure wellFormed header rec put puts putHeader anew vacate lose mapOn tally isFree mapWord page records ledgerOf ledgerOfTwo
+  unfolding sumBelow padded listBelow bit bitOn insecure wellFormed legalEntry header rec put puts putHeader anew vacate lose mapOn tally isFree mapWord page records ledgerOf ledgerOfTwo
   link-demands =
       record {
         names-first = (no-going one refl refl, no-going two refl refl, no-going (gone one 1 refl) refl refl, good .in-alone);
@@ -214,7 +217,7 @@ module _ (any : Any) where
       }
 
   stopped-demands : StoppedDemands any
-  unfolding sumBelow padded listBelow bit bitOn insecure wellFormed header rec put puts putHeader anew vacate lose mapOn tally isFree mapWord page records ledgerOf
+  unfolding sumBelow padded listBelow bit bitOn insecure wellFormed legalEntry header rec put puts putHeader anew vacate lose mapOn tally isFree mapWord page records ledgerOf
   stopped-demands =
       record {
         any-first-level = λ ws e. yes-by (filled one 7 ws e refl) refl;
@@ -234,6 +237,7 @@ module _ (any : Any) where
         counts = (no-by one refl, no-by (gone one 1 refl) refl, good .in-stopped);
         owners = (no-by one refl, good .in-stopped);
         words = (no-by one refl, no-by one refl, no-by one refl, no-by one refl, no-by one refl, no-by one refl, good .in-stopped);
+        entry = (no-by one refl, no-by one refl, good .in-stopped);
         registers = (no-by one refl, good .in-stopped);
         zero-memory = (
           no-by (stored one 6 0 1 refl) refl,
@@ -245,9 +249,10 @@ module _ (any : Any) where
       }
 
   thread-demands : ThreadDemands any
-  unfolding sumBelow padded listBelow bit bitOn insecure wellFormed header rec put puts putHeader anew vacate lose mapOn tally isFree mapWord page records ledgerOf
+  unfolding sumBelow padded listBelow bit bitOn insecure wellFormed legalEntry header rec put puts putHeader anew vacate lose mapOn tally isFree mapWord page records ledgerOf
   thread-demands =
       record {
+        every-entry = (no-by one refl, no-by one refl, no-by one refl, good .in-alone .if-final, good .in-running, good .in-suspended);
         registers = (no-by one refl, no-by one refl, good .in-alone .if-final, good .in-suspended);
         no-flags = (no-by one refl, yes-by one refl);
         free-memory = (no-by (stored one 12 0 1 refl) refl, no-by (stored one 13 1023 1 refl) refl, good .in-alone .if-building);

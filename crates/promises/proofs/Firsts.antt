@@ -28,7 +28,7 @@ use Rattle.promises.specs.Terms.{codeOf}
 use Rattle.promises.specs.Firsts.{Tests, ends, done, systems, enclaves, FirstRefusals}
 use Rattle.promises.proofs.Opened.{row-is}
 use Rattle.promises.proofs.Firsts.Order.{Firsts, _then_, test-eq, test-ne, test-le}
-use Rattle.promises.proofs.Firsts.Shared.{system-first, enclave-first, as-first, pg-first, building-first, thread-first, own-first, shaped-first, plain-first, index-first, addr-first, shut-first}
+use Rattle.promises.proofs.Firsts.Shared.{system-first, enclave-first, as-first, pg-first, building-first, thread-first, own-first, legal-first, shaped-first, plain-first, index-first, addr-first, shut-first}
 use Rattle.promises.proofs.Firsts.Own.{remove-first, load-first, store-first}
 
 -- ---- a record: its form, then its call
@@ -110,7 +110,10 @@ first-refusals =
           (acts M L _
           (test-le (b .pages) (arg W 1) 0 then test-le (b .pages) (arg W 2) 0 then test-ne (typeOf L (arg W 1)) free 1
           then test-ne (typeOf L (arg W 2)) free 1 then test-eq (arg W 1) (arg W 2) 1));
-      init-thread = λ b M L W. by-system b M L W 3 refl refl (acts M L _ (building-first b L (arg W 1) then pg-first b L (arg W 2)));
+      init-thread =
+          λ b M L W.
+          by-system b M L W 3 refl refl
+          (acts M L _ (building-first b L (arg W 1) then pg-first b L (arg W 2) then legal-first (arg W 3)));
       init-table =
           λ b M L W.
           by-system b M L W 4 refl refl

@@ -98,7 +98,7 @@ ends s (closed m) u = (u, u)
 module _ (b : Machine) (M L W L₀ : List ℕ) (a : ℕ) (ok : Accepted b M L) (done : codeOf (obey b M L W) ≡ 0) (names : arg W 1 ≡ a) where
   threads : arg W 0 ≡ 3 → stateOf L a ≡ building
   unfolding lookup calls initThread
-  threads i = rw names at (passes-init-thread b L (arg W 1) (arg W 2) (effect refl (record { asks = i; done = done }) refl .0) .2)
+  threads i = rw names at (passes-init-thread b L (arg W 1) (arg W 2) (arg W 3) (effect refl (record { asks = i; done = done }) refl .0) .2)
 
   maps : arg W 0 ≡ 6 → stateOf L a ≡ building
   unfolding lookup calls mapSecure

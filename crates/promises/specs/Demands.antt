@@ -7,7 +7,7 @@ use lib.ListN.{length, take, replicate}
 use Rattle.words.specs.Words.{padded, paste, listBelow}
 use Rattle.machine.specs.declared.Machine.{Machine}
 use Rattle.machine.specs.Machine.{frameWords, machineOf, mapStart}
-use Rattle.ledger.specs.Names.{blocksWord, building, countWord, dataPage, final, firstLevel, firstPageWord, flagsWord, indexWord, keyWords, mappingWord, ownerWord, registersWord, runningWord, secondLevel, space, spare, stateWord, stopped, suspendedWord, thread, typeWord}
+use Rattle.ledger.specs.Names.{blocksWord, building, countWord, dataPage, entryWord, final, firstLevel, firstPageWord, flagsWord, indexWord, keyWords, mappingWord, ownerWord, registersWord, runningWord, secondLevel, space, spare, stateWord, stopped, suspendedWord, thread, typeWord}
 use Rattle.ledger.specs.Ledger.{lose, put, puts, putHeader, vacate}
 use Rattle.memory.specs.Memory.{putWord, wiped}
 use Rattle.walk.specs.Walk.{slotWord}
@@ -73,24 +73,22 @@ unfoldable pub frames : List (List ℕ) → List ℕ
 frames [] = []
 frames (f ∷ fs) = take frameWords (f ++ replicate frameWords 0) ++ frames fs
 
--- ---- what may be anything: the key, a space's hash, a thread's entry point and registers, the word in every frame that is not secure, and that
--- in a data page
+-- ---- what may be anything: the key, a space's hash, a thread's registers, the word in every frame that is not secure, and that in a data page
 pub record Any : Type 0 where
   pub key : ℕ → ℕ
   pub hash : ℕ → ℕ
-  pub entry : ℕ
   pub registers : ℕ → ℕ
   pub outside : ℕ
   pub held : ℕ
 
 module _ (any : Any) where
   -- ---- one space, in state s: page 0 the space, 1 its first-level page, 2 its table of index 0, 3 its data page at address 4096, readable and
-  -- writable, 4 its thread, 5 its spare; 6 and 7 free. It owns 5 pages; blocks 66
+  -- writable, 4 its thread with entry 4096, 5 its spare; 6 and 7 free. It owns 5 pages; blocks 66
   unfoldable pub ledgerOf : ℕ → List ℕ
   ledgerOf s =
       records
       ((0 ∷ listBelow keyWords (any .key) ++ (192 ∷ [])) ∷ (space ∷ 0 ∷ 1 ∷ s ∷ 5 ∷ 66 ∷ listBelow 8 (any .hash)) ∷ (firstLevel ∷ 0 ∷ []) ∷
-      (secondLevel ∷ 0 ∷ 0 ∷ []) ∷ (dataPage ∷ 0 ∷ 4099 ∷ []) ∷ (thread ∷ 0 ∷ any .entry ∷ []) ∷ (spare ∷ 0 ∷ []) ∷ [] ∷ [] ∷ [])
+      (secondLevel ∷ 0 ∷ 0 ∷ []) ∷ (dataPage ∷ 0 ∷ 4099 ∷ []) ∷ (thread ∷ 0 ∷ 4096 ∷ []) ∷ (spare ∷ 0 ∷ []) ∷ [] ∷ [] ∷ [])
 
   -- page p is frame 6 + p. Slot 0 of the first-level page (frame 7) names table 2. Of the table (frame 8), slot 1 names the data page (frame 9)
   -- and slot 2 frame 2, which is insecure, both readable and writable
@@ -178,7 +176,14 @@ module _ (any : Any) where
     pub states : No (inRecord finalA 0 stateWord 3) × Yes finalA
     -- "6-13 hash or measurement", then unnamed words
     pub space-words : No (inRecord buildingA 0 14 1) × No (inRecord buildingA 0 31 1) × Yes buildingA
-    -- "2 thread: .. 3 suspended 0/1"
+    -- "2 thread: 2 entry point". #103: not one that "isn't a multiple of 4 or is at or above 2^30" (nor need it be mapped)
+    pub entry-multiple :
+        No (inRecord buildingA 4 entryWord 4097) × No (inRecord buildingA 4 entryWord 4098) × No (inRecord buildingA 4 entryWord 4099)
+        × Yes (inRecord buildingA 4 entryWord 4100) × Yes (inRecord buildingA 4 entryWord 0)
+    pub entry-low :
+        No (inRecord buildingA 4 entryWord (2 ^ 30)) × No (inRecord buildingA 4 entryWord (2 ^ 32 - 4))
+        × Yes (inRecord buildingA 4 entryWord (2 ^ 30 - 4))
+    -- "3 suspended 0/1"
     pub suspended : No (inRecord suspendedA 4 suspendedWord 2) × Yes suspendedA
     -- "20 flags (low 28 bits 0)", then unnamed words
     pub flags :
@@ -276,18 +281,23 @@ module _ (any : Any) where
     pub at-most-65n : No (inRecord stoppedA 0 blocksWord 521) × Yes (inRecord stoppedA 0 blocksWord 520)
     -- "Word 2 is below n."
     pub word-2 : No (inRecord stoppedA 0 firstPageWord 8) × Yes stoppedA
-    -- what else binds it: owned counts, an owner for each page, records (here one of each type), zero registers, zero memory
+    -- what else binds it: owned counts, an owner for each page, records (here one of each type), entries, zero registers, zero memory
     pub counts : No (inRecord stoppedA 0 countWord 4) × No (inRecord (without stoppedA 1) 0 countWord 5) × Yes stoppedA
     pub owners : No (inRecord (inRecord stoppedA 5 ownerWord 1) 0 countWord 4) × Yes stoppedA
     pub words :
         No (inRecord stoppedA 0 14 1) × No (inRecord stoppedA 1 2 1) × No (inRecord stoppedA 2 3 1) × No (inRecord stoppedA 3 3 1)
         × No (inRecord stoppedA 4 21 1) × No (inRecord stoppedA 5 2 1) × Yes stoppedA
+    pub entry : No (inRecord stoppedA 4 entryWord 4097) × No (inRecord stoppedA 4 entryWord (2 ^ 30)) × Yes stoppedA
     pub registers : No (inRecord stoppedA 4 registersWord 1) × Yes stoppedA
     pub zero-memory :
         No (inFrame stoppedA 6 0 1) × No (inFrame stoppedA 10 0 1) × No (inFrame stoppedA 11 0 1) × No (inFrame stoppedA 12 0 1) × Yes stoppedA
 
   -- ---- threads, memory, and who runs
   pub record ThreadDemands : Type 0 where
+    -- #103: "every thread" (of a final space, one that runs, one that is suspended)
+    pub every-entry :
+        No (inRecord finalA 4 entryWord 4097) × No (inRecord runningA 4 entryWord 4097) × No (inRecord suspendedA 4 entryWord 4097) × Yes finalA
+        × Yes runningA × Yes suspendedA
     -- "A thread not suspended has zero registers and flags." (r0, r15, flags; a suspended one may have any)
     pub registers : No (inRecord finalA 4 registersWord 1) × No (inRecord finalA 4 19 1) × Yes finalA × Yes suspendedA
     pub no-flags : No (inRecord finalA 4 flagsWord (2 ^ 28)) × Yes (inRecord suspendedA 4 flagsWord (2 ^ 28))

@@ -1,5 +1,5 @@
--- Demand 2: "done when the rules allow it, otherwise the first refusal that applies." Each row of document 01's table of calls, its tests from
--- left to right, said of record words, frame words and machine numbers; of any state whatever. Assumes nothing.
+-- Demand 2: "done when the rules allow it, otherwise the first refusal that applies." Each row of document 01's table of calls, as request
+-- #103 amends it, its tests from left to right, said of record words, frame words and machine numbers; of any state whatever. Assumes nothing.
 use Prim.Native.Nat.{ℕ, _+_, _/_, _%_, _^_, _≤_, _<_}
 use mathlib.Core.Path.{_≡_}
 use mathlib.Core.Logic.{_⊎_}
@@ -9,7 +9,7 @@ use Rattle.mapping.specs.Mapping.{mostTables}
 use Rattle.ledger.specs.Names.{runningWord, free, space, thread, dataPage, spare, building, final, stopped}
 use Rattle.ledger.specs.Ledger.{header, typeOf, ownerOf, firstOf, stateOf, countOf, suspendedOf}
 use Rattle.memory.specs.Memory.{frame}
-use Rattle.answer.specs.Refusals.{noSuchPage, notFree, notSpace, wrongState, ownerNotFinal, illFormed, slotTaken, noTable, notInsecure, notThread, isSuspended, notSuspended, notStopped, stillOwns, wrongTime, notOwnSpare, notOwnData, badRecord, noSuchIndex, alreadyFree, interrupted, faulted}
+use Rattle.answer.specs.Refusals.{noSuchPage, notFree, notSpace, wrongState, ownerNotFinal, illFormed, slotTaken, noTable, notInsecure, notThread, isSuspended, notSuspended, notStopped, stillOwns, wrongTime, notOwnSpare, notOwnData, badRecord, noSuchIndex, alreadyFree, badEntry, interrupted, faulted}
 use Rattle.answer.specs.Answer.{owner}
 use Rattle.records.specs.Records.{arg}
 use Rattle.batch.specs.Batch.{obey}
@@ -54,6 +54,11 @@ PG b L p after = (b .pages ≤ p) gives noSuchPage else Not (typeOf L p ≡ free
 -- "not building 4"
 abbrev pub Building : List ℕ → ℕ → Tests → Tests
 Building L a after = Not (stateOf L a ≡ building) gives wrongState else after
+
+-- #103: a legal entry is "a multiple of 4" and not "at or above 2^30"
+pub record Legal (entry : ℕ) : Type 0 where
+  pub multiple : entry % 4 ≡ 0
+  pub low : entry < 2 ^ 30
 
 -- a mapping word: read in bit 0, the page address in bits 12-29, rights in bits 0-2, zeros elsewhere
 pub record Shaped (map : ℕ) : Type 0 where
@@ -130,7 +135,10 @@ pub record FirstRefusals : Type 0 where
       ((b .pages ≤ arg W 1) gives noSuchPage else (b .pages ≤ arg W 2) gives noSuchPage
       else Not (typeOf L (arg W 1) ≡ free) gives notFree else Not (typeOf L (arg W 2) ≡ free) gives notFree
       else (arg W 1 ≡ arg W 2) gives notFree else done))
-  pub init-thread : Row 3 (λ b M L W. systems 3 L W (AS b L (arg W 1) (Building L (arg W 1) (PG b L (arg W 2) done))))
+  pub init-thread :
+      Row 3
+      (λ b M L W.
+      systems 3 L W (AS b L (arg W 1) (Building L (arg W 1) (PG b L (arg W 2) (Not (Legal (arg W 3)) gives badEntry else done)))))
   pub init-table :
       Row 4
       (λ b M L W.

@@ -1,4 +1,4 @@
--- The numbers that document 01 gives, one by one, of the names that definitions, contracts and promises use. Assumes nothing.
+-- The numbers that document 01 and the requests give, one by one, of the names that definitions, contracts and promises use. Assumes nothing.
 use Prim.Native.Nat.{ℕ, _^_}
 use mathlib.Core.Path.{_≡_}
 use mathlib.Core.List.{_∷_}
@@ -7,7 +7,7 @@ use Rattle.words.specs.Words.{wordBits, recordWords}
 use Rattle.machine.specs.Machine.{mostFrames, mostPages, frameWords, headerWords, mapStart, mapWords}
 use Rattle.mapping.specs.Mapping.{pageBytes, tableBytes, mostTables, addressEnd, executeRight, rightsEnd}
 use Rattle.ledger.specs.Names.{runningWord, typeWord, ownerWord, firstPageWord, stateWord, countWord, blocksWord, hashWord, spaceEnd, entryWord, suspendedWord, registersWord, flagsWord, threadEnd, indexWord, mappingWord, namedEnd, ownedEnd, freeEnd, keyWords, dataBlocks, types, states, free, space, thread, firstLevel, secondLevel, dataPage, spare, building, final, stopped}
-use Rattle.answer.specs.Refusals.{noSuchPage, notFree, notSpace, wrongState, ownerNotFinal, illFormed, slotTaken, noTable, notInsecure, notThread, isSuspended, notSuspended, notStopped, stillOwns, wrongTime, notOwnSpare, notOwnData, illFitting, badRecord, noSuchIndex, alreadyFree, interrupted, faulted}
+use Rattle.answer.specs.Refusals.{noSuchPage, notFree, notSpace, wrongState, ownerNotFinal, illFormed, slotTaken, noTable, notInsecure, notThread, isSuspended, notSuspended, notStopped, stillOwns, wrongTime, notOwnSpare, notOwnData, illFitting, badRecord, noSuchIndex, alreadyFree, badEntry, interrupted, faulted}
 use Rattle.building.specs.Calls.{threadBlock}
 use Rattle.batch.specs.Service.{mostRecords}
 
@@ -33,7 +33,7 @@ pub record NumbersAreTheDocuments : Type 0 where
   -- answers
   pub refusals-1 : Number noSuchPage 1 × Number notFree 2 × Number notSpace 3 × Number wrongState 4 × Number ownerNotFinal 5 × Number illFormed 6 × Number slotTaken 7
   pub refusals-8 : Number noTable 8 × Number notInsecure 9 × Number notThread 10 × Number isSuspended 11 × Number notSuspended 12 × Number notStopped 13
-  pub refusals-14 : Number stillOwns 14 × Number wrongTime 15 × Number notOwnSpare 16 × Number notOwnData 17 × Number badRecord 19 × Number noSuchIndex 21 × Number alreadyFree 22
+  pub refusals-14 : Number stillOwns 14 × Number wrongTime 15 × Number notOwnSpare 16 × Number notOwnData 17 × Number badRecord 19 × Number noSuchIndex 21 × Number alreadyFree 22 × Number badEntry 23
   pub others : Number illFitting 18 × Number interrupted 32 × Number faulted 33
   -- measuring: what a data page counts; "A thread adds the 16 words 1, entry, zeros."
   pub blocks : Number dataBlocks 65

@@ -60,6 +60,7 @@ zeros-same e z k l u = e k u ∙ z k l u
 thread-same : {r r' : ℕ → ℕ} → ((k : ℕ) → k < 32 → r' k ≡ r k) → ThreadRec r → ThreadRec r'
 thread-same e s =
     record {
+      entry = rw (e 2 (omega arith)) (s .entry);
       suspended = rw (e 3 (omega arith)) (s .suspended);
       flags = rw (e 20 (omega arith)) (s .flags);
       rest = zeros-same e (s .rest);

@@ -77,7 +77,12 @@ module _ {b : Machine} {M L : List ℕ} (ok : Accepted b M L) {t : ℕ} (tl : t 
       let type' = low 0 (omega arith) ∙ type in
       let old = ok .rules .pages t tl .layout .is-thread type in
       let words : ThreadRec (rec L' t) =
-      record { suspended = state; flags = flags; rest = λ k lo hi. word-past k (omega arith) ∙ old .rest k lo hi } in
+      record {
+        entry = rw (low 2 (omega arith)) (old .entry);
+        suspended = state;
+        flags = flags;
+        rest = λ k lo hi. word-past k (omega arith) ∙ old .rest k lo hi;
+      } in
       accepted ok refl (length-run L' v ∙ wrote .size)
       (rw (rec-run L' v)
       (touch-kept touches (ok .rules) owned refl (layout-of type' (omega arith) words) (λ _. idle) self

@@ -9,7 +9,8 @@ use Rattle.machine.specs.declared.Machine.{Machine}
 use Rattle.machine.specs.Machine.{frameWords, headerWords, mapStart, mapWords, mostFrames, mostPages, Fits, Insecure, insecure, Lent}
 use Rattle.machine.proofs.Laws.{fitting, insecure-holds, holds-insecure}
 use Rattle.mapping.specs.Mapping.{indexOf, slotOf, rightsOf, wellFormed, rightsEnd, executeRight, mostTables, pageBytes}
-use Rattle.ledger.specs.Names.{freeEnd, states, runningWord, space, thread, firstLevel, secondLevel, dataPage, building, final, stopped, blocksWord, countWord, dataBlocks, firstPageWord, flagsWord, indexWord, mappingWord, namedEnd, ownedEnd, ownerWord, registersWord, spaceEnd, stateWord, suspendedWord, threadEnd, typeWord}
+use Rattle.mapping.specs.Entry.{legalEntry}
+use Rattle.ledger.specs.Names.{freeEnd, states, runningWord, space, thread, firstLevel, secondLevel, dataPage, building, final, stopped, blocksWord, countWord, dataBlocks, entryWord, firstPageWord, flagsWord, indexWord, mappingWord, namedEnd, ownedEnd, ownerWord, registersWord, spaceEnd, stateWord, suspendedWord, threadEnd, typeWord}
 use Rattle.ledger.specs.Ledger.{header, rec}
 use Rattle.memory.specs.Memory.{frame, wordsOf}
 use Rattle.walk.specs.Walk.{slotWord}
@@ -144,8 +145,9 @@ module _ (b : Machine) (M L : List ℕ) (ok : Lent b M L) (ps : List (List Mark)
 
     abbrev pub thread-record : Decided (ThreadRec (rec L p))
     thread-record =
-        as-if (λ (s, (f, z)). record { suspended = s; flags = f; rest = z }) (λ x. (x .suspended, (x .flags, x .rest)))
-        (less (rec L p suspendedWord) 2 and equal (rec L p flagsWord % 2 ^ 28) 0
+        as-if (λ (e, (s, (f, z))). record { entry = e; suspended = s; flags = f; rest = z })
+        (λ x. (x .entry, (x .suspended, (x .flags, x .rest))))
+        (passes (legalEntry (rec L p entryWord)) and less (rec L p suspendedWord) 2 and equal (rec L p flagsWord % 2 ^ 28) 0
         and record-zeros L p threadEnd recordWords)
 
     abbrev pub thread-rules : Decided (ThreadRules (rec L) p)

@@ -1,11 +1,11 @@
 -- Tests in order: a code is that of the first of some tests, whatever is tested after them. Assumes nothing.
-use Prim.Native.Nat.{ℕ, zero, suc, _≤_}
+use Prim.Native.Nat.{ℕ, zero, suc, _≤_, _<_}
 use mathlib.Core.Path.{_≡_, refl, sym, subst}
 use mathlib.Core.Bool.{Bool, true, false, not}
 use mathlib.Core.Logic.{_⊎_, inl, inr, ⊎-elim}
 use native.Mathlib.Omega.{arith}
-use lib.Dec.{eqb, leb}
-use borrow.Author.Tests.{eqb-true, eqb-false, leb-true, leb-false}
+use lib.Dec.{eqb, leb, ltb}
+use borrow.Author.Tests.{eqb-true, eqb-false, leb-true, leb-false, ltb-true, ltb-false}
 use Rattle.words.specs.Words.{Says, when, or}
 use Rattle.promises.specs.Firsts.{Tests, _gives_else_, Not}
 
@@ -54,6 +54,9 @@ eq-says x y = says (eqb x y) (eqb-true x y) (eqb-false x y)
 
 pub ne-says : (x y : ℕ) → Says (not (eqb x y)) (Not (x ≡ y))
 ne-says x y = not-says (x ≡ y) (eqb x y) (eq-says x y)
+
+pub lt-says : (x y : ℕ) → Says (ltb x y) (x < y)
+lt-says x y = says (ltb x y) (ltb-true x y) (λ e l. omega (arith, ltb-false x y e))
 
 pub test-eq : (x y c : ℕ) → Firsts (λ after. (x ≡ y) gives suc c else after) (when (eqb x y) (suc c))
 test-eq x y c = test (eqb x y) c (eq-says x y)

@@ -8,7 +8,7 @@ use native.Mathlib.Omega.{arith}
 use lib.Dec.{eqb, leb, ltb}
 use lib.ListN.{getD, drop}
 use lib.Seq.{getD-drop}
-use borrow.Author.Tests.{ltb-true, ltb-false, eq-eqb, ne-eqb, not-true, not-false}
+use borrow.Author.Tests.{eq-eqb, ne-eqb, not-true, not-false}
 use Rattle.words.specs.Words.{Says, pick, when, or, allZero}
 use Rattle.words.proofs.Cases.{lt-or-ge, same-or}
 use Rattle.words.proofs.Says.{says-same}
@@ -16,6 +16,7 @@ use Rattle.machine.specs.declared.Machine.{Machine}
 use Rattle.machine.specs.Machine.{Insecure, insecure}
 use Rattle.machine.proofs.Laws.{insecure-holds, holds-insecure}
 use Rattle.mapping.specs.Mapping.{mostTables, indexOf, slotOf, executes, wellFormed}
+use Rattle.mapping.specs.Entry.{legalEntry}
 use Rattle.ledger.specs.Ledger.{header, typeOf, ownerOf, stateOf}
 use Rattle.ledger.specs.Names.{runningWord, free, space, thread, building, final}
 use Rattle.memory.specs.Memory.{frame}
@@ -23,13 +24,13 @@ use Rattle.walk.specs.declared.Walked.{Walked}
 use Rattle.walk.specs.declared.Walked.the-variants.{At, NoTable}
 use Rattle.walk.specs.Walk.{walk}
 use Rattle.walk.proofs.Laws.{walk-nothing, walk-table, by-word}
-use Rattle.answer.specs.Refusals.{illFormed, slotTaken, notInsecure, badRecord, noSuchIndex}
+use Rattle.answer.specs.Refusals.{illFormed, slotTaken, notInsecure, badRecord, noSuchIndex, badEntry}
 use Rattle.answer.specs.Answer.{asCode, pgCode, buildingCode, takenCode, addrCode, indexCode, owner}
 use Rattle.system.specs.Calls.{threadCode}
 use Rattle.enclave.specs.Calls.{ownCode}
 use Rattle.records.specs.Records.{turnCode, formCode}
-use Rattle.promises.specs.Firsts.{Tests, _gives_else_, Not, MoreWords, systems, enclaves, AS, PG, Building, Shaped, Taken, ADDR, Shut, INDEX, OWN, THREAD}
-use Rattle.promises.proofs.Firsts.Order.{Firsts, none, here, past, or-assoc, _then_, test, not-says, says, eq-says, ne-says, test-eq, test-ne, test-le, test-two}
+use Rattle.promises.specs.Firsts.{Tests, _gives_else_, Not, MoreWords, systems, enclaves, AS, PG, Building, Legal, Shaped, Taken, ADDR, Shut, INDEX, OWN, THREAD}
+use Rattle.promises.proofs.Firsts.Order.{Firsts, none, here, past, or-assoc, _then_, test, not-says, says, eq-says, ne-says, lt-says, test-eq, test-ne, test-le, test-two}
 
 -- ---- 19, then 15
 -- a word of ws is not zero
@@ -90,12 +91,26 @@ module _ (b : Machine) (L : List ℕ) where
       test-le (b .pages) p 0
       then test-two (not (eqb (ownerOf L p) (owner L))) (not (eqb (typeOf L p) t)) c (ne-says (ownerOf L p) (owner L)) (ne-says (typeOf L p) t)
 
+-- ---- an entry
+pub legal-says : (entry : ℕ) → Says (legalEntry entry) (Legal entry)
+unfolding legalEntry
+legal-says entry =
+    go (eqb (entry % 4) 0) (ltb entry (2 ^ 30)) (eq-says (entry % 4) 0) (lt-says entry (2 ^ 30))
+  where
+    go : (t u : Bool) → Says t (entry % 4 ≡ 0) → Says u (entry < 2 ^ 30) → Says (t && u) (Legal entry)
+    go true true m l = record { multiple = m; low = l }
+    go true false m n = λ s. n (s .low)
+    go false u n l = λ s. n (s .multiple)
+
+pub legal-first : (entry : ℕ) → Firsts (λ after. Not (Legal entry) gives badEntry else after) (when (not (legalEntry entry)) badEntry)
+legal-first entry = test (not (legalEntry entry)) 22 (not-says (Legal entry) (legalEntry entry) (legal-says entry))
+
 -- ---- a mapping word
 shaped-says : (map : ℕ) → Says (wellFormed map) (Shaped map)
 unfolding wellFormed
 shaped-says map =
     go (eqb (map % 2) 1) (eqb (map / 2 ^ 3 % 2 ^ 9) 0) (ltb map (2 ^ 30)) (eq-says (map % 2) 1) (eq-says (map / 2 ^ 3 % 2 ^ 9) 0)
-    (says (ltb map (2 ^ 30)) (ltb-true map (2 ^ 30)) (λ e l. omega (arith, ltb-false map (2 ^ 30) e)))
+    (lt-says map (2 ^ 30))
   where
     go : (t u v : Bool) → Says t (map % 2 ≡ 1) → Says u (map / 2 ^ 3 % 2 ^ 9 ≡ 0) → Says v (map < 2 ^ 30) → Says (t && (u && v)) (Shaped map)
     go true true true r z l = record { reads = r; zeros = z; low = l }

@@ -88,11 +88,11 @@ module _ {b : Machine} {M L : List ℕ} (ok : Accepted b M L) {a p : ℕ} (al : 
       (hash-is (measure charged a k h) a h e
       (measure-hash charged a k h (omega (arith, length-gain taken a, length-occupy L p (t ∷ a ∷ vs), record-in ok a al))))
 
-pub making-thread : {b : Machine} {M L : List ℕ} (a t entry : ℕ) → Accepted b M L → initThreadCode b L a t ≡ 0
+pub making-thread : {b : Machine} {M L : List ℕ} (a t entry : ℕ) → Accepted b M L → initThreadCode b L a t entry ≡ 0
     → (rec L a 3 ≡ building) × Making b L (newThread L a t entry) a t (thread ∷ a ∷ entry ∷ []) 1 (compress (hash L a) (threadBlock entry))
 unfolding newThread addThread
 making-thread {b} {M} {L} a t entry ok z =
-    let (al, type, now, tl, was) = passes-init-thread b L a t z in
+    let (al, type, now, tl, was, _) = passes-init-thread b L a t entry z in
     (now, measuring ok al type tl was thread (entry ∷ []) 1 _ (omega arith) (compress-length _ _))
 
 pub making-table : {b : Machine} {M L : List ℕ} (a p i : ℕ) → Accepted b M L → initTableCode b M L a p i ≡ 0
