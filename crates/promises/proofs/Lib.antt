@@ -15,6 +15,7 @@ pub mod Measured
 pub mod Tells
 pub mod Attested
 pub mod Jobs
+pub mod Entries
 pub mod Published
 pub mod Decided
 pub mod Demands

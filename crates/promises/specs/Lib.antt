@@ -12,6 +12,7 @@ pub mod Measured
 pub mod Tells
 pub mod Attested
 pub mod Jobs
+pub mod Entries
 pub mod Published
 pub mod Demands
 pub mod Cheats

@@ -12,6 +12,7 @@ use Rattle.promises.specs.Attested.{AttestIsHmac, VerifyIsHmac, KeyStays
 use Rattle.promises.specs.Published.{ShiftIsPlayed, AbcIsPublished, JefeIsPublished}
 use Rattle.promises.specs.Cheats.{SomebodyServes, NobodyRefusesAll, NobodyHasASingleReply, NobodyMovesNothing, NobodyPlaysAllAtOnce, NobodyInventsCounts, MovingNothingKeeps}
 use Rattle.promises.specs.Demands.{AcceptanceDemands}
+use Rattle.promises.specs.Entries.{EntriesAreLegal}
 use Rattle.promises.specs.Kept.{EveryRecordKeeps, EveryBatchKeeps, OutsidersKeep, HistoryKeeps, FreshIsAccepted, BootLeavesAccepted, BatchLeavesAccepted}
 use Rattle.promises.specs.Access.{LoadTouchesOneWord, StoreTouchesOneWord, AccessTellsNoMore, ReachedAlone, ReachedAloneAlways}
 use Rattle.promises.specs.Shut.{MonitorFramesStay, MonitorFramesUnread, OthersPagesStay, RemoveZeroesAlone}
@@ -80,6 +81,7 @@ pub record Promises : Type 0 where
   pub moving-nothing-keeps : MovingNothingKeeps
   -- demand 3: acceptance, and that it is kept
   pub acceptance-demands : AcceptanceDemands
+  pub entries-are-legal : EntriesAreLegal
   pub every-record-keeps : EveryRecordKeeps
   pub every-batch-keeps : EveryBatchKeeps
   pub outsiders-keep : OutsidersKeep

@@ -23,6 +23,7 @@ use Rattle.promises.proofs.Published.{shift-is-played, abc-is-published
 use Rattle.promises.proofs.Decided.{somebody-serves}
 use Rattle.promises.proofs.Cheats.{nobody-refuses-all, nobody-has-a-single-reply, nobody-moves-nothing, nobody-plays-all-at-once, nobody-invents-counts, moving-nothing-keeps}
 use Rattle.promises.proofs.Demands.{acceptance-demands}
+use Rattle.promises.proofs.Entries.{entries-are-legal}
 use Rattle.promises.proofs.Kept.{every-record-keeps, every-batch-keeps, outsiders-keep, history-keeps, fresh-is-accepted, boot-leaves-accepted, batch-leaves-accepted}
 use Rattle.promises.proofs.Access.{load-touches-one-word, store-touches-one-word, access-tells-no-more, reached-alone, reached-alone-always}
 use Rattle.promises.proofs.Shut.{monitor-frames-stay, monitor-frames-unread, others-pages-stay, remove-zeroes-alone}
@@ -89,6 +90,7 @@ returns c =
       nobody-invents-counts = nobody-invents-counts;
       moving-nothing-keeps = moving-nothing-keeps;
       acceptance-demands = acceptance-demands;
+      entries-are-legal = entries-are-legal;
       every-record-keeps = every-record-keeps;
       every-batch-keeps = every-batch-keeps;
       outsiders-keep = outsiders-keep;
