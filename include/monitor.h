@@ -84,7 +84,7 @@ enum monitor_call {
     /* asked by the system, while no thread runs */
     MONITOR_GET_PHYS_PAGES = 1,   /* */
     MONITOR_INIT_ADDR_SPACE = 2,  /* space, first-level page */
-    MONITOR_INIT_THREAD = 3,      /* space, page, entry */
+    MONITOR_INIT_THREAD = 3,      /* space, page, entry: a multiple of 4 below 2^30 */
     MONITOR_INIT_TABLE = 4,       /* InitL2PTable: space, page, index */
     MONITOR_ALLOC_SPARE = 5,      /* space, page */
     MONITOR_MAP_SECURE = 6,       /* space, page, mapping word, frame; the mapping word and the words copied are measured */
@@ -136,6 +136,7 @@ enum monitor_code {
     MONITOR_BAD_RECORD = 19,      /* an unknown number, or a word that is not zero after the arguments */
     MONITOR_NO_SUCH_INDEX = 21,   /* 256 or more */
     MONITOR_ALREADY_FREE = 22,
+    MONITOR_BAD_ENTRY = 23,       /* no multiple of 4, or 2^30 or more */
     /* outcomes: the run has ended */
     MONITOR_INTERRUPTED = 32,     /* the thread is suspended */
     MONITOR_FAULTED = 33

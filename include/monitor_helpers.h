@@ -139,6 +139,7 @@ static inline const char *monitor_code_text(uint32_t code)
     case MONITOR_BAD_RECORD: return "not the record of a call";
     case MONITOR_NO_SUCH_INDEX: return "no such index";
     case MONITOR_ALREADY_FREE: return "free already";
+    case MONITOR_BAD_ENTRY: return "not a legal entry";
     case MONITOR_INTERRUPTED: return "interrupted, the thread is suspended";
     case MONITOR_FAULTED: return "fault, the run has ended";
     default: return "no code of the monitor";

@@ -88,6 +88,7 @@ fn later_meaning(code: u32) {
         19 => say(b"bad record"),
         21 => say(b"no such index"),
         22 => say(b"already free"),
+        23 => say(b"bad entry"),
         32 => say(b"interrupted"),
         33 => say(b"fault"),
         _ => say(b"unknown"),

@@ -108,6 +108,7 @@ pub enum Code {
     BadRecord = 19,
     NoSuchIndex = 21,
     AlreadyFree = 22,
+    BadEntry = 23,
     Interrupted = 32,
     Faulted = 33,
 }

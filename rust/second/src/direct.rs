@@ -7,7 +7,7 @@ use crate::layout::{
     MOST_PAGES, MOST_TABLES, RUNNING,
 };
 use crate::machine::Machine;
-use crate::mapping::{Leaf, Mapping, EXECUTE};
+use crate::mapping::{Leaf, Mapping, ADDRESSES, EXECUTE, WORD_BYTES};
 
 /// A tally for each page that could be a space.
 type Tallies = [Tally; MOST_PAGES as usize];
@@ -209,6 +209,9 @@ impl<'a> Words<'a> {
     }
 }
 
+/// The bits that a legal entry may have.
+const ENTRY_BITS: u32 = ADDRESSES - WORD_BYTES;
+
 /// A thread's words: idle ones hold no registers and no flags.
 fn thread_record(record: &Record) -> bool {
     let saved = match record[word::SUSPENDED] {
@@ -216,5 +219,5 @@ fn thread_record(record: &Record) -> bool {
         1 => record[word::FLAGS] & !FLAG_BITS == 0,
         _ => false,
     };
-    saved && zero(&record[word::SAVED_END..])
+    saved && record[word::ENTRY] & !ENTRY_BITS == 0 && zero(&record[word::SAVED_END..])
 }

@@ -3,7 +3,7 @@
 use crate::calls::{done, number, Code, Reply};
 use crate::layout::{BLOCK_WORDS, FRAME_WORDS, REGISTERS, SAVED_WORDS};
 use crate::ledger::{Page, Space, State, Thread};
-use crate::mapping::{Leaf, Mapping};
+use crate::mapping::{is_legal_entry, Leaf, Mapping};
 use crate::monitor::Monitor;
 use crate::sha;
 
@@ -56,6 +56,9 @@ impl Monitor<'_> {
     fn init_thread(&mut self, a: u32, t: u32, entry: u32) -> Reply {
         let owner = self.building(a)?;
         let thread = self.free_page(t)?;
+        if !is_legal_entry(entry) {
+            return Err(Code::BadEntry);
+        }
         self.ledger.pages[thread] = Page::Thread(Thread { owner, entry, saved: None });
         self.measure(owner, &head(THREAD_HEAD, entry));
         done()

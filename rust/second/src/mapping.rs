@@ -22,6 +22,11 @@ pub const PAGE_SHIFT: u32 = 12;
 /// The bits of a page address.
 pub const PAGE_ADDRESS: u32 = ADDRESSES - (1 << PAGE_SHIFT);
 
+/// Whether a thread may start here: a multiple of 4 below 2^30.
+pub fn is_legal_entry(word: u32) -> bool {
+    word.is_multiple_of(WORD_BYTES) && word < ADDRESSES
+}
+
 /// A mapping word: page address in bits 12-29, rights in bits 0-2.
 #[derive(Clone, Copy, Debug, PartialEq, Eq)]
 pub struct Mapping(pub u32);

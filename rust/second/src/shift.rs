@@ -25,7 +25,7 @@ use crate::service::{batch, boot, DONE};
 use std::fmt::Write;
 
 /// The codes of an answer record, in words.
-pub const MEANINGS: [(u32, &str); 23] = [
+pub const MEANINGS: [(u32, &str); 24] = [
     (DONE, "done"),
     (Code::NoSuchPage as u32, "no such page"),
     (Code::NotFree as u32, "not free"),
@@ -47,6 +47,7 @@ pub const MEANINGS: [(u32, &str); 23] = [
     (Code::BadRecord as u32, "bad record"),
     (Code::NoSuchIndex as u32, "no such index"),
     (Code::AlreadyFree as u32, "already free"),
+    (Code::BadEntry as u32, "bad entry"),
     (Code::Interrupted as u32, "interrupted"),
     (Code::Faulted as u32, "fault"),
 ];

@@ -97,7 +97,7 @@ fn tables() {
 #[test]
 fn threads() {
     let mut rng = Rng::new(33);
-    let mut lent = crowd(&mut rng, |page| vec![3, 0, page, page]);
+    let mut lent = crowd(&mut rng, |page| vec![3, 0, page, 4 * page]);
     assert_eq!(lent.space(word::BLOCKS), MOST_PAGES - 2);
     lent.all_done(&[vec![8, 0], vec![9, 200, 1, 2, 3], vec![38, 0]]);
     take_down(&mut rng, &mut lent);

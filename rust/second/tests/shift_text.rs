@@ -80,6 +80,12 @@ const CODES: &[u32] = &[
     0, 0, 0, 13, 0, 0, 0,
     // Neighbours: a thread of space 0 learns nothing of space 4's pages.
     0, 0, 0, 0, 0, 0, 0, 16, 16, 17, 17, 16, 0,
+    // Entries: no multiple of 4, or not below 2^30.
+    23, 23, 23, 23, 23, 23, 23, 23, 23,
+    // Spaces and pages are asked first.
+    1, 3, 4, 1, 2,
+    // The page is free still, and the build goes on: the highest entry, and 0.
+    0, 0, 0, 0, 0, 0, 19, 15, 0, 0, 0, 0,
 ];
 
 #[test]
@@ -123,6 +129,7 @@ fn lines_have_their_form() {
         "19 Enter 4 7 8 9 -> 0 done: 7 8 9 0 0 0 0 0 0 0 0 0 0 0 0 4096 0",
         "26 Enter 4 -> 11 suspended",
         "41 Unknown 14 -> 19 bad record",
+        "296 InitThread 4 7 4097 -> 23 bad entry",
     ] {
         assert!(lines.contains(&expected), "{expected}");
     }
@@ -150,6 +157,9 @@ fn values_are_the_expected_ones() {
         "239 Load 1073729544 -> 0 done: 15362",
         "261 Resume 7 -> 0 done: 0 0 0 0 0 0 0 0 0 0 0 0 0 0 0 0 268435456",
         "262 Exit 4294967295 -> 0 done: 4294967295",
+        "310 FreePages -> 0 done: 1 7",
+        "315 Enter 7 1 2 3 -> 0 done: 1 2 3 0 0 0 0 0 0 0 0 0 0 0 0 1073741820 0",
+        "320 Enter 6 -> 0 done: 0 0 0 0 0 0 0 0 0 0 0 0 0 0 0 0 0",
     ] {
         assert!(text.lines().any(|line| line == expected), "{expected}");
     }
@@ -166,4 +176,15 @@ fn the_attestation_verifies() {
     assert_eq!(answers[197].1[1..9], mac);
     let verified: Vec<u32> = answers[198..202].iter().map(|(_, answer)| answer[1]).collect();
     assert_eq!(verified, [1, 0, 0, 0]);
+}
+
+/// What is attested after entries were refused is of the two threads that were
+/// made, as another implementation computed it: nothing refused is measured.
+#[test]
+fn refused_entries_are_not_attested() {
+    let mac = [
+        1757915855, 4109543549, 3383223045, 1043685739, 3877781970, 1147938807, 3348059073,
+        388102581,
+    ];
+    assert_eq!(answers()[317].1[1..9], mac);
 }

@@ -97,6 +97,9 @@ fn layouts() {
     told(2, 3, 1, "zero in a second-level table");
     told(3, 2, 4098, "a well-formed mapping word");
     told(3, 3, 1, "zero in a data page");
+    for entry in [1, 4097, 4098, 4099, 1 << 30, (1 << 30) + 4, u32::MAX - 3, u32::MAX] {
+        told(4, 2, entry, "a legal entry, a multiple of 4 below 2^30");
+    }
     told(4, 3, 2, "a suspended word, 0 to 1");
     told(4, 20, 1 << 27, "flags with bits 0-27 zero");
     told(4, 21, 1, "zero in a thread");

@@ -36,7 +36,7 @@ pub struct Space {
 pub struct Thread {
     /// The space it runs in.
     pub owner: u32,
-    /// Where Enter starts it.
+    /// Where Enter starts it: where accepted, a multiple of 4 below 2^30.
     pub entry: u32,
     /// Whether it was interrupted and not resumed.
     pub suspended: bool,

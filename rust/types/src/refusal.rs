@@ -53,11 +53,13 @@ pub enum Refusal {
     NoSuchIndex = 21,
     /// 22: the page is free already.
     AlreadyFree = 22,
+    /// 23: the entry is not a multiple of 4, or is 2^30 or more.
+    BadEntry = 23,
 }
 
 impl Refusal {
     /// All refusals, by number.
-    pub const ALL: [Refusal; 20] = [
+    pub const ALL: [Refusal; 21] = [
         Refusal::NoSuchPage,
         Refusal::NotFree,
         Refusal::NotSpace,
@@ -78,6 +80,7 @@ impl Refusal {
         Refusal::BadRecord,
         Refusal::NoSuchIndex,
         Refusal::AlreadyFree,
+        Refusal::BadEntry,
     ];
 
     /// The two that every record is asked first, in this order, before its
@@ -116,6 +119,7 @@ impl Refusal {
             Refusal::BadRecord => "not the record of a call",
             Refusal::NoSuchIndex => "no such index",
             Refusal::AlreadyFree => "free already",
+            Refusal::BadEntry => "not a legal entry",
         }
     }
 }

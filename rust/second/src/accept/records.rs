@@ -4,7 +4,7 @@ use super::broken::{a_page, Broken, Rule};
 use super::lent::{Lent, Verdict};
 use crate::demand::demand;
 use crate::layout::{kind, state, word, FLAG_BITS, MOST_TABLES, RECORD_WORDS};
-use crate::mapping::Mapping;
+use crate::mapping::{is_legal_entry, Mapping};
 use std::fmt;
 
 /// What the layout asks of a word of a record.
@@ -17,6 +17,8 @@ enum Asked {
     Own(usize),
     /// A number below this one, and what it is.
     Below(u32, &'static str),
+    /// A legal entry.
+    Entry,
     /// A well-formed mapping word.
     Mapping,
     /// Flags.
@@ -30,6 +32,7 @@ impl Asked {
             Asked::Zero(_) => word == 0,
             Asked::Own(page) => word as usize == *page,
             Asked::Below(limit, _) => word < *limit,
+            Asked::Entry => is_legal_entry(word),
             Asked::Mapping => Mapping(word).well_formed(),
             Asked::Flags => word & !FLAG_BITS == 0,
         }
@@ -43,6 +46,7 @@ impl fmt::Display for Asked {
             Asked::Zero(kind) => write!(out, "zero in {}", a_page(*kind)),
             Asked::Own(page) => write!(out, "{page}, since a space owns itself"),
             Asked::Below(limit, name) => write!(out, "{name}, 0 to {}", limit - 1),
+            Asked::Entry => write!(out, "a legal entry, a multiple of 4 below 2^30"),
             Asked::Mapping => write!(out, "a well-formed mapping word"),
             Asked::Flags => write!(out, "flags with bits 0-27 zero"),
         }
@@ -74,7 +78,7 @@ impl Lent<'_> {
 
     /// The table of page records, word by word.
     fn asked(&self, page: usize, kind: u32, place: usize) -> Asked {
-        use Asked::{Any, Below, Flags, Mapping, Own, Zero};
+        use Asked::{Any, Below, Entry, Flags, Mapping, Own, Zero};
         match (kind, place) {
             (_, word::TYPE) => Any, // A5
             (kind::SPACE, word::OWNER) => Own(page),
@@ -82,8 +86,9 @@ impl Lent<'_> {
             (kind::SPACE, word::STATE) => Below(state::COUNT, "a state"),
             (kind::SPACE, word::COUNT..word::HASH_END) => Any,
             (kind::THREAD..=kind::SPARE, word::OWNER) => Any, // A7
-            (kind::THREAD, word::ENTRY | word::SAVED..word::FLAGS) => Any,
+            (kind::THREAD, word::ENTRY) => Entry,
             (kind::THREAD, word::SUSPENDED) => Below(2, "a suspended word"),
+            (kind::THREAD, word::SAVED..word::FLAGS) => Any,
             (kind::THREAD, word::FLAGS) => Flags,
             (kind::SECOND, word::INDEX) => Below(MOST_TABLES as u32, "an index"),
             (kind::DATA, word::MAPPING) => Mapping,

@@ -12,7 +12,7 @@ use std::fmt;
 const ROWS: [(u32, &[Code]); 24] = [
     (GET_PHYS_PAGES, &[]),
     (INIT_ADDR_SPACE, &[NoSuchPage, NotFree]),
-    (INIT_THREAD, &[NoSuchPage, NotASpace, WrongState, NotFree]),
+    (INIT_THREAD, &[NoSuchPage, NotASpace, WrongState, NotFree, BadEntry]),
     (INIT_TABLE, &[NoSuchPage, NotASpace, WrongState, NotFree, NoSuchIndex, Taken]),
     (ALLOC_SPARE, &[NoSuchPage, NotASpace, WrongState, NotFree]),
     (

@@ -1,5 +1,6 @@
 //! Damage to accepted words, by kinds, each with what acceptance must say.
 
+use super::entries::{illegal_entry, legal_entry};
 use super::{Rng, View};
 use crate::layout::kind::{DATA, FIRST, FREE, SECOND, SPACE, SPARE, THREAD};
 use crate::layout::state::{BUILDING, FINAL, STOPPED};
@@ -94,6 +95,11 @@ pub fn kinds() -> &'static [Kind] {
         No "a state that is none" high_state;
         No "an index that is none" high_index;
         No "an ill-formed mapping word" ill_mapping;
+        No "an illegal entry in a building space" building_entry;
+        No "an illegal entry in a final space" final_entry;
+        No "an illegal entry in a stopped space" stopped_entry;
+        No "an illegal entry of a suspended thread" suspended_entry;
+        No "an illegal entry of a running thread" running_entry;
         No "another first-level page in word 2" other_first;
         No "a stopped space's word 2 not below n" stopped_first_high;
         No "a second first-level page" second_first;
@@ -101,7 +107,8 @@ pub fn kinds() -> &'static [Kind] {
         Yes "a stopped space's loose tables" loose_tables;
         Yes "a stopped space's tables with one index" stopped_one_index;
         Yes "a stopped space's second first-level page" stopped_second_first;
-        Yes "another key, hash or entry point" free_words;
+        Yes "another legal entry" other_entry;
+        Yes "another key or hash" free_words;
         Yes "other words in data pages and in frames that are not secure" free_memory;
         Yes "an insecure slot added" insecure_added;
         Yes "an insecure slot emptied" insecure_emptied;
@@ -548,6 +555,43 @@ impl Hurt<'_> {
         Some(())
     }
 
+    fn ill_entry(&mut self, thread: Option<usize>) -> Option<()> {
+        let (thread, entry) = (thread?, illegal_entry(self.rng));
+        self.record(thread)[word::ENTRY] = entry;
+        Some(())
+    }
+
+    fn building_entry(&mut self) -> Option<()> {
+        let thread = self.in_state(THREAD, BUILDING);
+        self.ill_entry(thread)
+    }
+
+    fn final_entry(&mut self) -> Option<()> {
+        let thread = self.in_state(THREAD, FINAL);
+        self.ill_entry(thread)
+    }
+
+    fn stopped_entry(&mut self) -> Option<()> {
+        let thread = self.in_state(THREAD, STOPPED);
+        self.ill_entry(thread)
+    }
+
+    fn suspended_entry(&mut self) -> Option<()> {
+        let thread = self.page(|view, page| view.kind(page) == THREAD && view.suspended(page));
+        self.ill_entry(thread)
+    }
+
+    fn running_entry(&mut self) -> Option<()> {
+        let thread = self.view().running();
+        self.ill_entry(thread)
+    }
+
+    fn other_entry(&mut self) -> Option<()> {
+        let (thread, entry) = (self.of(THREAD)?, legal_entry(self.rng));
+        self.record(thread)[word::ENTRY] = entry;
+        Some(())
+    }
+
     fn other_first(&mut self) -> Option<()> {
         let space =
             self.page(|view, page| view.kind(page) == SPACE && view.owner_state(page) != STOPPED)?;
@@ -584,17 +628,12 @@ impl Hurt<'_> {
 
     fn free_words(&mut self) -> Option<()> {
         let word = self.rng.word();
-        match self.rng.below(3) {
-            0 => self.ledger[KEY_START + self.rng.below(HASH_WORDS as u32) as usize] = word,
-            1 => {
-                let space = self.of(SPACE)?;
-                let place = word::HASH + self.rng.below(HASH_WORDS as u32) as usize;
-                self.record(space)[place] = word;
-            }
-            _ => {
-                let thread = self.of(THREAD)?;
-                self.record(thread)[word::ENTRY] = word;
-            }
+        let place = self.rng.below(HASH_WORDS as u32) as usize;
+        if self.rng.once_in(2) {
+            self.ledger[KEY_START + place] = word;
+        } else {
+            let space = self.of(SPACE)?;
+            self.record(space)[word::HASH + place] = word;
         }
         Some(())
     }

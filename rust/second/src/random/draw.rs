@@ -1,6 +1,7 @@
 //! The next call of a shift, drawn with an eye on the current words so that
 //! successes and every refusal come up often.
 
+use super::entries::{illegal_entry, legal_entry};
 use super::{Rng, View};
 use crate::calls::by_number;
 use crate::calls::number::*;
@@ -154,7 +155,7 @@ impl Draw<'_, '_> {
     fn arguments(&mut self, number: u32) -> Vec<u32> {
         match number {
             INIT_ADDR_SPACE => vec![self.free_page(), self.free_page()],
-            INIT_THREAD => vec![self.space(BUILDING), self.free_page(), self.rng.word()],
+            INIT_THREAD => self.init_thread(),
             INIT_TABLE => vec![self.space(BUILDING), self.free_page(), self.index()],
             ALLOC_SPARE => vec![self.live_space(), self.free_page()],
             MAP_SECURE => self.map_secure(),
@@ -306,6 +307,21 @@ impl Draw<'_, '_> {
         self.rng.pick(&choices)
     }
 
+    fn init_thread(&mut self) -> Vec<u32> {
+        let space = self.space(BUILDING);
+        vec![space, self.free_page(), self.entry(space as usize)]
+    }
+
+    /// A legal entry, mostly; some are mapped in this space.
+    fn entry(&mut self, space: usize) -> u32 {
+        match self.rng.below(12) {
+            0 | 1 => illegal_entry(self.rng),
+            2 => self.rng.word(),
+            3 => self.mapped(space).unwrap_or(0),
+            _ => legal_entry(self.rng),
+        }
+    }
+
     fn map_secure(&mut self) -> Vec<u32> {
         let space = self.space(BUILDING);
         let map = self.mapping(space as usize, WRITE | EXECUTE);
@@ -335,7 +351,7 @@ impl Draw<'_, '_> {
 
     /// An address that is mapped for the running thread, mostly.
     fn address(&mut self) -> u32 {
-        let word = self.mapped().unwrap_or_else(|| self.rng.word() & PAGE_ADDRESS)
+        let word = self.mapped(self.owner()).unwrap_or_else(|| self.rng.word() & PAGE_ADDRESS)
             | (self.rng.below(FRAME_WORDS as u32) * WORD_BYTES);
         match self.rng.below(40) {
             0 => word | (1 + self.rng.below(WORD_BYTES - 1)),
@@ -348,9 +364,9 @@ impl Draw<'_, '_> {
         }
     }
 
-    /// The address of some slot of the owner's tables that is not empty.
-    fn mapped(&mut self) -> Option<u32> {
-        let mut tables = self.view.tables(self.owner());
+    /// The address of some slot of this space's tables that is not empty.
+    fn mapped(&mut self, space: usize) -> Option<u32> {
+        let mut tables = self.view.tables(space);
         tables.retain(|table| self.view.words(*table).iter().any(|word| *word != 0));
         let table = self.rng.pick_any(&tables)?;
         let slots = self.view.words(table).iter().enumerate().filter(|(_, word)| **word != 0);

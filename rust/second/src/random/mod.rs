@@ -4,6 +4,7 @@
 mod coverage;
 mod damage;
 mod draw;
+mod entries;
 mod view;
 
 pub use coverage::{allowed_pairs, Coverage};

@@ -80,9 +80,10 @@ pub enum Call {
     /// 2: a new space on two different free pages, the second its first-level page.
     InitAddrSpace { space: u32, first: u32 } = 2 "InitAddrSpace"
         refused [NoSuchPage NotFree] else [DONE],
-    /// 3: a thread of a building space on a free page; it is measured.
+    /// 3: a thread of a building space on a free page, which starts at a multiple
+    /// of 4 below 2^30; it is measured.
     InitThread { space: u32, page: u32, entry: u32 } = 3 "InitThread"
-        refused [NoSuchPage NotSpace WrongState NoSuchPage NotFree] else [DONE],
+        refused [NoSuchPage NotSpace WrongState NoSuchPage NotFree BadEntry] else [DONE],
     /// 4, InitL2PTable: a table of a building space at an index below
     /// [`crate::layout::MOST_TABLES`].
     InitTable { space: u32, page: u32, index: u32 } = 4 "InitL2PTable"
