@@ -42,9 +42,9 @@
 #define MONITOR_SYSV __attribute__((sysv_abi))
 
 #define MONITOR_VERSION_MAJOR 0
-#define MONITOR_VERSION_MINOR 2
+#define MONITOR_VERSION_MINOR 3
 #define MONITOR_VERSION_PATCH 0
-#define MONITOR_VERSION "0.2.0"
+#define MONITOR_VERSION "0.3.0"
 
 #ifdef __cplusplus
 extern "C" {
