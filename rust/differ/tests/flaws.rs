@@ -1,5 +1,7 @@
 //! Wrong monitors, each with one flaw, are told from the second program.
 
+mod wrong_entries;
+
 use differ::round;
 use differ::services::{Second, Services};
 use differ::tally::Tally;
@@ -8,8 +10,9 @@ use second::layout::{
     kind, record_of, state, word, BLOCK_WORDS, FRAME_WORDS, HASH_WORDS, HEADER_WORDS, MAP_END,
     MOST_CALLS, MOST_PAGES, RECORD_WORDS, SAVED_WORDS,
 };
-use second::mapping::{Leaf, Mapping, EXECUTE};
+use second::mapping::{is_legal_entry, Leaf, Mapping, ADDRESSES, EXECUTE, WORD_BYTES};
 use second::{accepts, batch, boot, sha, Machine, DONE, UNFIT};
+use wrong_entries::{measure, take, Entries, May, RIGHT};
 
 type Boot = fn(Machine, &[u32], &mut [u32], &mut [u32]) -> u32;
 type Accepts = fn(Machine, &[u32], &[u32]) -> bool;
@@ -64,7 +67,7 @@ fn difference(services: &dyn Services, rounds: u64) -> Option<String> {
     (0..rounds).find_map(|seed| round(services, seed, &mut tally).err())
 }
 
-fn told_apart(name: &str, flaw: Flaw) {
+fn told_apart(name: &str, flaw: impl Services) {
     let found = difference(&flaw, 60);
     println!("{name}: {}", found.as_deref().unwrap_or("NOT FOUND"));
     assert!(found.is_some(), "{name}");
@@ -386,4 +389,87 @@ fn wrong_measurements() {
         "measures the mapping word of MapData",
         measures!(number::MAP_DATA, |it| it.message(it.map.0)),
     );
+}
+
+/// The highest legal entry.
+const HIGHEST: u32 = ADDRESSES - WORD_BYTES;
+
+/// Other readings of which entries are legal.
+const LEGAL: [(&str, May); 11] = [
+    ("takes any entry", |_| true),
+    ("takes any multiple of 4", |it| it.entry.is_multiple_of(WORD_BYTES)),
+    ("takes any entry below 2^30", |it| it.entry < ADDRESSES),
+    ("takes multiples of 2", |it| it.entry.is_multiple_of(2) && it.entry < ADDRESSES),
+    ("takes 2^30", |it| it.is_legal() || it.entry == ADDRESSES),
+    ("takes multiples of 4 below 2^31", |it| is_legal_entry(it.entry & !ADDRESSES)),
+    ("refuses 0", |it| it.is_legal() && it.entry != 0),
+    ("refuses 2^30 - 4", |it| it.is_legal() && it.entry != HIGHEST),
+    ("asks that the entry is mapped", |it| {
+        it.is_legal() && (it.is_stopped() || it.leaf().is_some())
+    }),
+    ("asks that the entry can be executed", |it| {
+        it.is_legal() && it.leaf().is_some_and(|leaf| leaf.rights & EXECUTE != 0)
+    }),
+    ("asks that the entry can be executed where it is mapped", |it| {
+        let executes = |leaf: Leaf| leaf.rights & EXECUTE != 0;
+        it.is_legal() && (it.is_stopped() || it.leaf().is_none_or(executes))
+    }),
+];
+
+#[test]
+fn wrong_entries_of_init_thread() {
+    assert_eq!(difference(&RIGHT, 8), None);
+    for (name, call) in LEGAL {
+        told_apart(&format!("InitThread {name}"), Entries { call, ..RIGHT });
+    }
+    let checks = ["19", "15", "the space", "4", "the page's number", "2"];
+    for (before, name) in checks.into_iter().enumerate() {
+        told_apart(&format!("asks for the entry before {name}"), Entries { before, ..RIGHT });
+    }
+    let refuse = |refuse| Entries { refuse, ..RIGHT };
+    told_apart(
+        "says 6 where 23 is meant",
+        refuse(|_, answer, _| answer[0] = Code::BadMapping as u32),
+    );
+    told_apart(
+        "measures a thread that it refuses",
+        refuse(|it, answer, ledger| {
+            (RIGHT.refuse)(it, answer, ledger);
+            measure(it, ledger);
+        }),
+    );
+    told_apart(
+        "takes the page of a thread that it refuses",
+        refuse(|it, answer, ledger| {
+            (RIGHT.refuse)(it, answer, ledger);
+            take(it, ledger);
+        }),
+    );
+    told_apart(
+        "makes the entry legal and goes on",
+        refuse(|it, _, ledger| {
+            let it = it.with_entry(it.entry & HIGHEST);
+            take(&it, ledger);
+            measure(&it, ledger);
+        }),
+    );
+}
+
+#[test]
+fn wrong_entries_of_acceptance() {
+    for (name, accepts) in LEGAL {
+        told_apart(&format!("acceptance {name}"), Entries { accepts, ..RIGHT });
+    }
+    let unasked: [(&str, May); 7] = [
+        ("stopped spaces", |it| it.is_stopped() || it.is_legal()),
+        ("building spaces", |it| it.is_building() || it.is_legal()),
+        ("final spaces", |it| !it.is_building() && !it.is_stopped() || it.is_legal()),
+        ("suspended threads", |it| it.is_suspended() || it.is_legal()),
+        ("threads that are not suspended", |it| !it.is_suspended() || it.is_legal()),
+        ("the running thread", |it| it.is_running() || it.is_legal()),
+        ("threads that do not run", |it| !it.is_running() || it.is_legal()),
+    ];
+    for (name, accepts) in unasked {
+        told_apart(&format!("acceptance does not ask of {name}"), Entries { accepts, ..RIGHT });
+    }
 }

@@ -20,7 +20,7 @@ use crate::sha;
 const HOST: [(u32, u32); 13] = [
     (GET_PHYS_PAGES, 1),
     (INIT_ADDR_SPACE, 3),
-    (INIT_THREAD, 3),
+    (INIT_THREAD, 5),
     (INIT_TABLE, 4),
     (ALLOC_SPARE, 3),
     (MAP_SECURE, 7),
@@ -66,9 +66,10 @@ fn often(rng: &mut Rng, calls: &[(u32, u32)]) -> u32 {
 pub fn next_call(rng: &mut Rng, view: View) -> Record {
     let mut draw = Draw { rng, view };
     let running = view.running().is_some();
-    // Now and then a call that is out of time.
-    let out_of_time = draw.rng.once_in(28);
-    let number = draw.hopeful_number(running != out_of_time);
+    // Now and then a call that is out of time, any of them: none can be done.
+    // Runs are short, so that it comes more often while a thread runs.
+    let out_of_time = draw.rng.once_in(if running { 10 } else { 28 });
+    let number = if out_of_time { draw.number(!running) } else { draw.hopeful_number(running) };
     let arguments = draw.arguments(number);
     let mut record = [0; RECORD_WORDS];
     record[0] = number;
@@ -315,9 +316,9 @@ impl Draw<'_, '_> {
     /// A legal entry, mostly; some are mapped in this space.
     fn entry(&mut self, space: usize) -> u32 {
         match self.rng.below(12) {
-            0 | 1 => illegal_entry(self.rng),
-            2 => self.rng.word(),
-            3 => self.mapped(space).unwrap_or(0),
+            0..3 => illegal_entry(self.rng),
+            3 => self.rng.word(),
+            4 | 5 => self.mapped(space).unwrap_or(0),
             _ => legal_entry(self.rng),
         }
     }

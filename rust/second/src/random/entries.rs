@@ -15,15 +15,11 @@ pub fn legal_entry(rng: &mut Rng) -> u32 {
 /// No multiple of 4, or not below 2^30.
 pub fn illegal_entry(rng: &mut Rng) -> u32 {
     let entry = legal_entry(rng);
-    match rng.below(4) {
-        0 => rng.pick(&[
-            ADDRESSES,
-            ADDRESSES + WORD_BYTES,
-            ADDRESSES << 1,
-            WORD_BYTES.wrapping_neg(),
-        ]),
-        1 => entry | ADDRESSES << rng.below(2),
-        2 => entry | ADDRESSES | 1 + rng.below(WORD_BYTES - 1),
+    let last = WORD_BYTES.wrapping_neg();
+    match rng.below(6) {
+        0 | 1 => rng.pick(&[ADDRESSES, ADDRESSES, ADDRESSES + WORD_BYTES, ADDRESSES << 1, last]),
+        2 => entry | ADDRESSES << rng.below(2),
+        3 => entry | ADDRESSES | 1 + rng.below(WORD_BYTES - 1),
         _ => entry | 1 + rng.below(WORD_BYTES - 1),
     }
 }
