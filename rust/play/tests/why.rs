@@ -2,7 +2,7 @@
 
 mod boxes;
 
-use monitor::layout::record_of;
+use monitor::layout::{record_of, word};
 use monitor::{Machine, Monitor};
 use play::why;
 use second::{Broken, Place, Rule};
@@ -45,6 +45,23 @@ fn a_frame_that_is_not_zero() {
     let (accepted, said) = said(&bench);
     assert!(!accepted && said.starts_with(&lines.join("\n")), "{said}");
     assert!(said.lines().nth(6).expect("a fault").starts_with("  fault: page 5, "));
+}
+
+#[test]
+fn an_entry_that_cannot_be_run() {
+    let mut bench = boxes::played(Machine::BOX_A, RUNS);
+    bench.ledger_mut().words_mut()[record_of(4)][word::ENTRY] = 4097;
+    let lines = [
+        "box A 16,6,8,0,2: not accepted (by the proved check)",
+        "",
+        "The first rule broken, as unproved advice of the second program:",
+        "  rule: A6 Every page: its record has the layout of its type",
+        "  page: 4",
+        "  fault: page 4, word 2 of its record: expected a legal entry, a multiple of 4",
+        "    below 2^30, found 4097",
+        "",
+    ];
+    assert_eq!(said(&bench), (false, lines.join("\n")));
 }
 
 /// Each rule's words fit the columns; the page is told apart from none.
