@@ -19,7 +19,7 @@ pub fn illegal_entry(rng: &mut Rng) -> u32 {
     match rng.below(6) {
         0 | 1 => rng.pick(&[ADDRESSES, ADDRESSES, ADDRESSES + WORD_BYTES, ADDRESSES << 1, last]),
         2 => entry | ADDRESSES << rng.below(2),
-        3 => entry | ADDRESSES | 1 + rng.below(WORD_BYTES - 1),
-        _ => entry | 1 + rng.below(WORD_BYTES - 1),
+        3 => entry | ADDRESSES | (1 + rng.below(WORD_BYTES - 1)),
+        _ => entry | (1 + rng.below(WORD_BYTES - 1)),
     }
 }
