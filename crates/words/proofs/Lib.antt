@@ -6,3 +6,4 @@ pub mod Sums
 pub mod Lists
 pub mod Paste
 pub mod Zero
+pub mod Endian

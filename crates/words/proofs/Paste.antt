@@ -1,11 +1,11 @@
--- Words pasted into a list: its length and its words afterwards, and the paste as a loop makes it, word by word. Assumes nothing.
+-- Words pasted into a list: its length and its words afterwards, the paste as a loop makes it, word by word, and a paste behind a paste. Assumes nothing.
 use Prim.Native.Nat.{ℕ, suc, _+_, _-_, _≤_, _<_}
 use mathlib.Core.Path.{_≡_, sym, ap, _∙_}
 use mathlib.Core.List.{List, _++_, append-assoc}
 use native.Mathlib.Omega.{arith}
 use native.Mathlib.Numerals.{add-one}
 use lib.ListN.{length, getD, set, take, drop, length-append, length-take, length-drop, List·getD-append}
-use lib.Seq.{length-take-le, getD-take, getD-drop, getD-append-add, take-all, paste-zero, paste-suc}
+use lib.Seq.{length-take-le, getD-take, getD-drop, getD-append-add, take-all, take-at, drop-append-add, drop-drop, paste-zero, paste-suc}
 use Rattle.words.specs.Words.{paste}
 
 module _ (M : List ℕ) (i n : ℕ) (vs : List ℕ) (fits : i + n ≤ length M) (size : length vs ≡ n) where
@@ -64,3 +64,31 @@ paste-turn M i vs k s e l m = rw s (rw e (paste-more M i vs k l m))
 pub paste-all : (M : List ℕ) (i n : ℕ) (vs : List ℕ) (k : ℕ) → length vs ≡ n → k ≤ n → n ≤ k → paste M i k (take k vs) ≡ paste M i n vs
 paste-all M i n vs k size l m =
     ap (λ (j : ℕ). paste M i j (take j vs)) {x = k} {y = n} (omega arith) ∙ ap (paste M i n) (take-all n vs (omega arith))
+
+-- ---- a paste right behind a paste is one paste
+module _ (M : List ℕ) (i n m : ℕ) (us vs : List ℕ) (fits : i + n ≤ length M) (size : length us ≡ n) where
+  abbrev head : List ℕ
+  head = take i M ++ us
+
+  head-size : length head ≡ i + n
+  head-size = length-append (take i M) us ∙ omega (arith, length-take-le i M (omega arith))
+
+  split : paste M i n us ≡ head ++ drop (i + n) M
+  unfolding paste
+  split = sym (append-assoc (take i M) us (drop (i + n) M))
+
+  after : drop (i + n + m) (head ++ drop (i + n) M) ≡ drop (i + (n + m)) M
+  after =
+      ap (λ (x : ℕ). drop (x + m) (head ++ drop (i + n) M)) (sym head-size)
+      ∙ drop-append-add head (drop (i + n) M) m
+      ∙ drop-drop m (i + n) M
+      ∙ ap (λ (x : ℕ). drop x M) {x = i + n + m} {y = i + (n + m)} (omega arith)
+
+  pub paste-behind : paste (paste M i n us) (i + n) m vs ≡ paste M i (n + m) (us ++ vs)
+  unfolding paste
+  paste-behind =
+      ap (λ (x : List ℕ). paste x (i + n) m vs) split
+      ∙ ap (λ (x : List ℕ). x ++ (vs ++ drop (i + n + m) (head ++ drop (i + n) M))) (take-at head (drop (i + n) M) (i + n) head-size)
+      ∙ ap (λ (x : List ℕ). head ++ (vs ++ x)) after
+      ∙ append-assoc (take i M) us (vs ++ drop (i + (n + m)) M)
+      ∙ ap (λ (x : List ℕ). take i M ++ x) (sym (append-assoc us vs (drop (i + (n + m)) M)))

@@ -1,5 +1,14 @@
-// Words: bits of one, lists of them in place, and refusals in order. What several crates use and none owns.
+// Words: bits of one, lists of them in place, their bytes, and refusals in order. What several crates use and none owns.
 
+mod bytes;
+
+pub use bytes::BYTE;
+pub use bytes::FOURTH;
+pub use bytes::SECOND;
+pub use bytes::THIRD;
+pub use bytes::WORD_BYTES;
+pub use bytes::put_word_at;
+pub use bytes::word_at;
 ghost use mathlib.Core.Path.{_≡_};
 ghost use Prim.Native.Nat.{ℕ, _+_, _<_, _≤_};
 ghost use lib.ListN.{length, getD, replicate};
