@@ -1,4 +1,4 @@
--- Document 01 and request #103: the number of each refusal, by its name, and the codes that end a run. Assumes nothing.
+-- Document 01 and the requests: the number of each refusal, by its name, and the codes that end a run. Assumes nothing.
 use Prim.Native.Nat.{ℕ}
 
 -- "page ≥ n 1"
@@ -88,6 +88,13 @@ alreadyFree = 22
 -- #103: "InitThread shall answer 23 .. when the entry isn't a multiple of 4 or is at or above 2^30"
 abbrev pub badEntry : ℕ
 badEntry = 23
+
+-- #106, of the reader of images: "otherwise it names the first bad block, or acceptance"
+abbrev pub badBlock : ℕ
+badBlock = 25
+
+abbrev pub notAccepted : ℕ
+notAccepted = 26
 
 -- of Interrupt "code 32", of Fault "code 33"
 abbrev pub interrupted : ℕ

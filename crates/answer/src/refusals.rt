@@ -44,6 +44,10 @@ pub const ALREADY_FREE: u32 = 22;
 
 pub const BAD_ENTRY: u32 = 23;
 
+pub const BAD_BLOCK: u32 = 25;
+
+pub const NOT_ACCEPTED: u32 = 26;
+
 pub const INTERRUPTED: u32 = 32;
 
 pub const FAULTED: u32 = 33;
