@@ -1,0 +1,4 @@
+pub mod Image
+pub mod Reader
+pub mod Runs
+pub mod Service
