@@ -7,6 +7,7 @@ ghost use Rattle.machine.specs.Machine.{machineOf};
 ghost use Rattle.accept.specs.Accept.{Accepts};
 ghost use Rattle.batch.specs.Service.{Batched};
 ghost use Rattle.boot.specs.Boot.{Booted};
+ghost use Rattle.image.specs.Service.{BlocksCounted, BlockWritten, BlockRead, ReadingEnded};
 
 #[no_mangle]
 pub extern "C" fn monitor_boot(
@@ -86,5 +87,111 @@ pub extern "C" fn monitor_batch(
         led,
         calls,
         answers,
+    )
+}
+
+#[no_mangle]
+pub extern "C" fn monitor_image_blocks(
+    frames: u32,
+    secure: u32,
+    pages: u32,
+    monitor: u32,
+    monitors: u32,
+) -> u32
+    ensures { λ r. ⌜ BlocksCounted (machineOf frames secure pages monitor monitors) r ⌝ }
+{
+    image::blocks(Machine {
+        frames,
+        secure,
+        pages,
+        monitor,
+        monitors,
+    })
+}
+
+#[no_mangle]
+pub extern "C" fn monitor_image_write(
+    frames: u32,
+    secure: u32,
+    pages: u32,
+    monitor: u32,
+    monitors: u32,
+    mem: &[u32],
+    led: &[u32],
+    number: u32,
+    index: u32,
+    block: &mut [u8],
+) -> u32
+    ensures { λ r. ⌜ BlockWritten (machineOf frames secure pages monitor monitors) (now (mem .entry)) (now (led .entry)) number index (now (block .entry)) r (now (block .exit)) ⌝ }
+{
+    image::write(
+        Machine {
+            frames,
+            secure,
+            pages,
+            monitor,
+            monitors,
+        },
+        mem,
+        led,
+        number,
+        index,
+        block,
+    )
+}
+
+#[no_mangle]
+pub extern "C" fn monitor_image_read(
+    frames: u32,
+    secure: u32,
+    pages: u32,
+    monitor: u32,
+    monitors: u32,
+    mem: &mut [u32],
+    led: &mut [u32],
+    progress: &mut [u32],
+    block: &[u8],
+) -> u32
+    ensures { λ r. ⌜ BlockRead (machineOf frames secure pages monitor monitors) (now (mem .entry)) (now (led .entry)) (now (progress .entry)) (now (block .entry)) r (now (mem .exit)) (now (led .exit)) (now (progress .exit)) ⌝ }
+{
+    image::read(
+        Machine {
+            frames,
+            secure,
+            pages,
+            monitor,
+            monitors,
+        },
+        mem,
+        led,
+        progress,
+        block,
+    )
+}
+
+#[no_mangle]
+pub extern "C" fn monitor_image_end(
+    frames: u32,
+    secure: u32,
+    pages: u32,
+    monitor: u32,
+    monitors: u32,
+    mem: &[u32],
+    led: &[u32],
+    progress: &mut [u32],
+) -> u32
+    ensures { λ r. ⌜ ReadingEnded (machineOf frames secure pages monitor monitors) (now (mem .entry)) (now (led .entry)) (now (progress .entry)) r (now (progress .exit)) ⌝ }
+{
+    image::end(
+        Machine {
+            frames,
+            secure,
+            pages,
+            monitor,
+            monitors,
+        },
+        mem,
+        led,
+        progress,
     )
 }
