@@ -20,3 +20,5 @@ pub mod Published
 pub mod Decided
 pub mod Demands
 pub mod Cheats
+pub mod Images
+pub mod Restored

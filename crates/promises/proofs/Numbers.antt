@@ -23,6 +23,8 @@ numbers-are-the-documents =
       refusals-8 = (so, so, so, so, so, so);
       refusals-14 = (so, so, so, so, so, so, so, so);
       others = (so, so, so);
+      images = (so, so, so, so, so, so, so, so);
+      reading = (so, so, so, so, so, so);
       blocks = so;
       thread-block = λ entry. refl;
     }

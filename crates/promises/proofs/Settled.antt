@@ -43,7 +43,7 @@ batch-is-settled b M L W A r r' M₁ L₁ A₁ M₂ L₂ A₂ (Batched.ill-fitti
     (e ∙ sym e', m ∙ sym m', l ∙ sym l', a ∙ sym a')
 
 -- ---- the document's numbers are those of the relation
-given : {b : Machine} {M L : List ℕ} → Lent b M L → Given b M L
+pub given : {b : Machine} {M L : List ℕ} → Lent b M L → Given b M L
 given {b} x =
     let f = x .fits in
     record {
@@ -57,7 +57,7 @@ given {b} x =
     }
 
 -- of two ranges that share no frame one ends before the other: else they share the later of their first frames
-lent : {b : Machine} {M L : List ℕ} → Given b M L → Lent b M L
+pub lent : {b : Machine} {M L : List ℕ} → Given b M L → Lent b M L
 lent {b} x =
     record {
       fits = record {

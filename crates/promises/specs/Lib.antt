@@ -17,3 +17,5 @@ pub mod Published
 pub mod Demands
 pub mod Cheats
 pub mod Promises
+pub mod Images
+pub mod Restored

@@ -15,6 +15,8 @@ use Rattle.promises.specs.Demands.{AcceptanceDemands}
 use Rattle.promises.specs.Entries.{EntriesAreLegal}
 use Rattle.promises.specs.Kept.{EveryRecordKeeps, EveryBatchKeeps, OutsidersKeep, HistoryKeeps, FreshIsAccepted, BootLeavesAccepted, BatchLeavesAccepted}
 use Rattle.promises.specs.Access.{LoadTouchesOneWord, StoreTouchesOneWord, AccessTellsNoMore, ReachedAlone, ReachedAloneAlways}
+use Rattle.promises.specs.Images.{ImagesAreSettled, ImagesEighteenExactlyWhen, ImagesRefuseAlone, ProgressTells, BlocksAreLaidDown, ChecksAreSeen, FirstBlockOfBoxA}
+use Rattle.promises.specs.Restored.{ImageYes, FirstBadBlock, ImageRoundTrip, AcceptanceReadsSecureAlone, Restored}
 use Rattle.promises.specs.Shut.{MonitorFramesStay, MonitorFramesUnread, OthersPagesStay, RemoveZeroesAlone}
 
 pub record Promises : Type 0 where
@@ -99,3 +101,16 @@ pub record Promises : Type 0 where
   pub monitor-frames-unread : MonitorFramesUnread
   pub others-pages-stay : OthersPagesStay
   pub remove-zeroes-alone : RemoveZeroesAlone
+  -- #106: saved images
+  pub images-are-settled : ImagesAreSettled
+  pub images-eighteen-exactly-when : ImagesEighteenExactlyWhen
+  pub images-refuse-alone : ImagesRefuseAlone
+  pub progress-tells : ProgressTells
+  pub blocks-are-laid-down : BlocksAreLaidDown
+  pub checks-are-seen : ChecksAreSeen
+  pub first-block-of-box-a : FirstBlockOfBoxA
+  pub image-yes : ImageYes
+  pub first-bad-block : FirstBadBlock
+  pub image-round-trip : ImageRoundTrip
+  pub acceptance-reads-secure-alone : AcceptanceReadsSecureAlone
+  pub restored : Restored

@@ -27,6 +27,8 @@ use Rattle.promises.proofs.Entries.{entries-are-legal}
 use Rattle.promises.proofs.Kept.{every-record-keeps, every-batch-keeps, outsiders-keep, history-keeps, fresh-is-accepted, boot-leaves-accepted, batch-leaves-accepted}
 use Rattle.promises.proofs.Access.{load-touches-one-word, store-touches-one-word, access-tells-no-more, reached-alone, reached-alone-always}
 use Rattle.promises.proofs.Shut.{monitor-frames-stay, monitor-frames-unread, others-pages-stay, remove-zeroes-alone}
+use Rattle.promises.proofs.Images.{images-are-settled, images-eighteen-exactly-when, images-refuse-alone, progress-tells, blocks-are-laid-down, checks-are-seen, first-block-of-box-a}
+use Rattle.promises.proofs.Restored.{image-yes, first-bad-block, image-round-trip, acceptance-reads-secure-alone, restored-holds}
 use Rattle.promises.proofs.promised.Statement.{statement}
 use Rattle.promises.proofs.promised.Tie as tie
 
@@ -107,6 +109,18 @@ returns c =
       monitor-frames-unread = monitor-frames-unread;
       others-pages-stay = others-pages-stay;
       remove-zeroes-alone = remove-zeroes-alone;
+      images-are-settled = images-are-settled;
+      images-eighteen-exactly-when = images-eighteen-exactly-when;
+      images-refuse-alone = images-refuse-alone;
+      progress-tells = progress-tells;
+      blocks-are-laid-down = blocks-are-laid-down;
+      checks-are-seen = checks-are-seen;
+      first-block-of-box-a = first-block-of-box-a;
+      image-yes = image-yes;
+      first-bad-block = first-bad-block;
+      image-round-trip = image-round-trip;
+      acceptance-reads-secure-alone = acceptance-reads-secure-alone;
+      restored = restored-holds;
     }
 
 pub promised-spec : {M : Type 1} → statement M
