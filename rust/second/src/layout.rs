@@ -28,6 +28,17 @@ pub const FLAG_BITS: u32 = 0xf000_0000;
 /// Tables that a first-level page can name; its other words are zero.
 pub const MOST_TABLES: usize = 256;
 
+/// Words before a block's payload, in a saved image: number, index, total.
+pub const BLOCK_HEAD: usize = 3;
+/// Words of a block's payload.
+pub const PAYLOAD_WORDS: usize = 124;
+/// Bytes of a block before its check.
+pub const CHECKED_BYTES: usize = 4 * (BLOCK_HEAD + PAYLOAD_WORDS);
+/// Bytes of a whole block.
+pub const BLOCK_BYTES: usize = CHECKED_BYTES + 4;
+/// Words that a reader of images keeps with its caller.
+pub const PROGRESS_WORDS: usize = 4;
+
 /// Header: the running thread's page plus 1.
 pub const RUNNING: usize = 0;
 /// Header: where the key starts.

@@ -3,8 +3,10 @@
 //! It shares no line with the proved program, so that a slip in one is no slip
 //! in the other.
 //!
-//! Three services over the lent words, as the rules name them: [`boot`],
-//! [`accepts`] and [`batch`]; and [`why`], which says why acceptance says no.
+//! The services over the lent words, as the rules name them: [`boot`],
+//! [`accepts`] and [`batch`]; for saved images [`image_blocks`],
+//! [`image_write`], [`image_read`] and [`image_end`]. [`why`] says why
+//! acceptance says no.
 //!
 //! Readings chosen where the text was open:
 //!
@@ -21,10 +23,19 @@
 //! - MapData may ask for the execute right; MapInsecure may not.
 //! - Stop of a stopped space is done once more. Remove of a spare page asks
 //!   nothing of its owner's state.
+//! - A lent block that is not 512 bytes draws 18 from the writer, which must
+//!   fill it, and is a bad block to the reader. A writer's index that no block
+//!   has draws 18.
+//! - A bad block is named by its place in what came, whatever its own words
+//!   say. Too few blocks name the first that is missing, one too many the
+//!   total.
+//! - A reading that has met a bad block keeps that answer. The image's number
+//!   is that of its first block.
 
 pub mod accept;
 pub mod calls;
 pub mod cases;
+pub mod crc;
 pub mod direct;
 pub mod layout;
 pub mod ledger;
@@ -38,9 +49,11 @@ pub mod vectors;
 mod demand;
 mod enclave;
 mod host;
+mod image;
 mod monitor;
 mod service;
 
 pub use accept::{Broken, Place, Rule};
+pub use image::{image_blocks, image_end, image_read, image_write, BAD_BLOCK, NOT_ACCEPTED};
 pub use machine::Machine;
 pub use service::{accepts, batch, boot, why, DONE, UNFIT};

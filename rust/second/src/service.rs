@@ -1,4 +1,4 @@
-//! The three services over lent words.
+//! Boot, acceptance and batch over lent words.
 
 use crate::accept::{accepted, fitting, Broken};
 use crate::calls::record;
