@@ -1,4 +1,4 @@
-/* The proved enclave monitor: three services for a host.
+/* The proved enclave monitor: its services for a host.
 
    A box has frames, secure ones, the monitor's own and insecure ones: struct monitor_machine below has its five numbers. A word is unsigned
    and has 32 bits. The host lends the memory, MONITOR_FRAME_WORDS words a frame, and the ledger, MONITOR_HEADER_WORDS words and
@@ -6,21 +6,26 @@
 
    What the services promise, for any words and numbers whatever:
    - Each answers and returns. They keep nothing between calls and call nothing back.
-   - What does not fit gets MONITOR_UNFIT (monitor_accepts: false), and then every lent word is as it was.
+   - What does not fit gets MONITOR_UNFIT (monitor_accepts: false; monitor_image_blocks: 0), and then every lent word is as it was.
    - Otherwise the answer and every lent word afterwards are those that docs/RULES.md lays down, and no others.
 
    What the host owes, which C cannot check:
-   - Each pointer is not null, aligned for uint32_t, and good for the number of words beside it, also where that number is 0.
-   - A list that a service writes (memory, ledger, answers; not acceptance's) overlaps no other list of the same call.
+   - Each pointer is not null, aligned for uint32_t, and good for the number of words beside it, also where that number is 0. A block is
+     bytes: it has any alignment.
+   - A list that a service writes (memory, ledger, answers, block, progress; not what is const) overlaps no other list of the same call.
    - Nobody else writes the lists, or reads those that are written, until the service returns. Nobody: no other core, no interrupt handler,
-     no device. Every list is lent: memory (insecure frames too), ledger, key, calls, answers. A call that comes from an untrusted caller is
-     first copied to where that caller cannot write.
+     no device. Every list is lent: memory (insecure frames too), ledger, key, calls, answers, block, progress. A call that comes from an
+     untrusted caller is first copied to where that caller cannot write.
    - The stack that a service runs on is in none of the lists, large enough, and out of everybody's reach, devices' too, also afterwards:
      words of the key and of pages may stay on it. docs/HOST.md, "Facts for a freestanding host", has the figures, and the registers used.
    - Who asks is the host's to know: 32 to 42 act for the enclave whose thread runs, whoever asks. From the system 1 to 13 are let through and
      nothing else, from the enclave one record of 32 to 38; 39 to 42 are the host's, for the hardware.
    - Between services others, devices too, write insecure frames alone. The monitor's frames, the secure ones and the ledger are kept from
      them by the hardware, and an enclave's loads and stores do as MONITOR_LOAD and MONITOR_STORE say.
+   - An image holds the key and every secure page: its blocks are kept as the ledger is, and stay on the chip. Saving and restoring are
+     nobody's to ask but the host's.
+   - Restoring rewinds history: what was done since the save is undone, and an older image is as good as the newest. Which one is restored
+     is the host's to decide; what is promised then starts again from the restored state.
 
    The numbers are here, and the services at the end. monitor_helpers.h, which is included last, has what a host would otherwise write
    itself: the services over a struct, mapping words, the codes in words. Nothing hangs on it.
@@ -42,9 +47,9 @@
 #define MONITOR_SYSV __attribute__((sysv_abi))
 
 #define MONITOR_VERSION_MAJOR 0
-#define MONITOR_VERSION_MINOR 3
+#define MONITOR_VERSION_MINOR 4
 #define MONITOR_VERSION_PATCH 0
-#define MONITOR_VERSION "0.3.0"
+#define MONITOR_VERSION "0.4.0"
 
 #ifdef __cplusplus
 extern "C" {
@@ -59,7 +64,10 @@ enum {
     MONITOR_HEADER_WORDS = 32,
     MONITOR_RECORD_WORDS = 32, /* of a page in the ledger, of a call and of its answer */
     MONITOR_KEY_WORDS = 8,
-    MONITOR_MOST_CALLS = 512 /* in a batch */
+    MONITOR_MOST_CALLS = 512,    /* in a batch */
+    MONITOR_BLOCK_BYTES = 512,   /* of a saved image: 128 words, the lowest byte of each first */
+    MONITOR_PAYLOAD_WORDS = 124, /* of a block that are the image's */
+    MONITOR_PROGRESS_WORDS = 4   /* of an image that is being read */
 };
 
 /* The box's numbers: which frames there are, and whose. Every frame below frames that is neither secure nor the monitor's is insecure. The
@@ -137,6 +145,9 @@ enum monitor_code {
     MONITOR_NO_SUCH_INDEX = 21,   /* 256 or more */
     MONITOR_ALREADY_FREE = 22,
     MONITOR_BAD_ENTRY = 23,       /* no multiple of 4, or 2^30 or more */
+    /* of an image that is read: refused */
+    MONITOR_BAD_BLOCK = 25,       /* the place of the first bad block is in the progress */
+    MONITOR_NOT_ACCEPTED = 26,    /* every block is good, and acceptance says no */
     /* outcomes: the run has ended */
     MONITOR_INTERRUPTED = 32,     /* the thread is suspended */
     MONITOR_FAULTED = 33
@@ -166,6 +177,42 @@ uint32_t monitor_batch(uint32_t frames, uint32_t secure, uint32_t pages, uint32_
                        uint32_t *ledger, size_t ledger_words,
                        const uint32_t *calls, size_t calls_words,
                        uint32_t *answers, size_t answers_words);
+
+/* ---- Saved images: ledger and secure frames in blocks of MONITOR_BLOCK_BYTES, each with its own check ---- */
+
+/* How many blocks an image of this box has; 0 where the numbers break the rules. */
+MONITOR_SYSV
+uint32_t monitor_image_blocks(uint32_t frames, uint32_t secure, uint32_t pages, uint32_t monitor, uint32_t monitors);
+
+/* Writes the block at this index, from 0, of the image with this number, which is the host's to choose. Acceptance is not asked: what is
+   lent is written. An image is of one state: nothing is changed between its first block and its last. Answers MONITOR_DONE; MONITOR_UNFIT
+   where numbers or lengths break the rules, or the image has no such block. */
+MONITOR_SYSV
+uint32_t monitor_image_write(uint32_t frames, uint32_t secure, uint32_t pages, uint32_t monitor, uint32_t monitors,
+                             const uint32_t *memory, size_t memory_words,
+                             const uint32_t *ledger, size_t ledger_words,
+                             uint32_t number, uint32_t index,
+                             uint8_t *block, size_t block_bytes);
+
+/* Reads the next block into a spare: a memory and a ledger as long as the box's own, which are not in use. The progress is all zeros before
+   the first block, and the service's own from then on. Answers MONITOR_DONE where all is good so far; MONITOR_BAD_BLOCK where progress[1]
+   names the first bad block, from 0, a block that is not MONITOR_BLOCK_BYTES long among them; MONITOR_UNFIT where numbers or lengths of
+   spare or progress break the rules. A bad block leaves the spare as it was, and every later answer is the same. */
+MONITOR_SYSV
+uint32_t monitor_image_read(uint32_t frames, uint32_t secure, uint32_t pages, uint32_t monitor, uint32_t monitors,
+                            uint32_t *memory, size_t memory_words,
+                            uint32_t *ledger, size_t ledger_words,
+                            uint32_t *progress, size_t progress_words,
+                            const uint8_t *block, size_t block_bytes);
+
+/* Says that no block follows. Answers MONITOR_DONE where the image is whole and acceptance passes: then the spare's ledger and secure
+   frames are the image's, and its other frames as they were. MONITOR_BAD_BLOCK as above, also where a block is missing;
+   MONITOR_NOT_ACCEPTED where all blocks are good and acceptance says no; MONITOR_UNFIT as above. Writes the progress alone. */
+MONITOR_SYSV
+uint32_t monitor_image_end(uint32_t frames, uint32_t secure, uint32_t pages, uint32_t monitor, uint32_t monitors,
+                           const uint32_t *memory, size_t memory_words,
+                           const uint32_t *ledger, size_t ledger_words,
+                           uint32_t *progress, size_t progress_words);
 
 #ifdef __cplusplus
 }

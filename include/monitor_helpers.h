@@ -81,6 +81,44 @@ static inline uint32_t monitor_batch_on(const struct monitor_machine *machine,
                          memory, memory_words, ledger, ledger_words, calls, calls_words, answers, answers_words);
 }
 
+/* monitor_image_blocks on this box. */
+static inline uint32_t monitor_image_blocks_on(const struct monitor_machine *machine)
+{
+    return monitor_image_blocks(machine->frames, machine->secure, machine->pages, machine->monitor, machine->monitors);
+}
+
+/* monitor_image_write on this box. */
+static inline uint32_t monitor_image_write_on(const struct monitor_machine *machine,
+                                              const uint32_t *memory, size_t memory_words,
+                                              const uint32_t *ledger, size_t ledger_words,
+                                              uint32_t number, uint32_t index,
+                                              uint8_t *block, size_t block_bytes)
+{
+    return monitor_image_write(machine->frames, machine->secure, machine->pages, machine->monitor, machine->monitors,
+                               memory, memory_words, ledger, ledger_words, number, index, block, block_bytes);
+}
+
+/* monitor_image_read on this box. */
+static inline uint32_t monitor_image_read_on(const struct monitor_machine *machine,
+                                             uint32_t *memory, size_t memory_words,
+                                             uint32_t *ledger, size_t ledger_words,
+                                             uint32_t *progress, size_t progress_words,
+                                             const uint8_t *block, size_t block_bytes)
+{
+    return monitor_image_read(machine->frames, machine->secure, machine->pages, machine->monitor, machine->monitors,
+                              memory, memory_words, ledger, ledger_words, progress, progress_words, block, block_bytes);
+}
+
+/* monitor_image_end on this box. */
+static inline uint32_t monitor_image_end_on(const struct monitor_machine *machine,
+                                            const uint32_t *memory, size_t memory_words,
+                                            const uint32_t *ledger, size_t ledger_words,
+                                            uint32_t *progress, size_t progress_words)
+{
+    return monitor_image_end(machine->frames, machine->secure, machine->pages, machine->monitor, machine->monitors,
+                             memory, memory_words, ledger, ledger_words, progress, progress_words);
+}
+
 /* ---- Mapping words: rights in bits 0-2, slot in bits 12-21, index in bits 22-29, all others zero ---- */
 
 /* Whether calls take this word as a mapping. */
@@ -140,6 +178,8 @@ static inline const char *monitor_code_text(uint32_t code)
     case MONITOR_NO_SUCH_INDEX: return "no such index";
     case MONITOR_ALREADY_FREE: return "free already";
     case MONITOR_BAD_ENTRY: return "not a legal entry";
+    case MONITOR_BAD_BLOCK: return "a bad block";
+    case MONITOR_NOT_ACCEPTED: return "acceptance says no";
     case MONITOR_INTERRUPTED: return "interrupted, the thread is suspended";
     case MONITOR_FAULTED: return "fault, the run has ended";
     default: return "no code of the monitor";

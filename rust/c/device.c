@@ -72,21 +72,27 @@ static void on(int sig, void (*handler)(int, siginfo_t *, void *))
     expect(sigaction(sig, &action, NULL) == 0, "a handler for the device");
 }
 
+/* How often a frame outside was reached; the monitor's never is. */
+static int reached_outside(void)
+{
+    int frame, count = 0;
+    for (frame = 0; frame < FRAMES; frame++)
+        count += reached[frame];
+    expect(reached[0] == 0 && reached[1] == 0, "nothing reaches the monitor's frames");
+    return count;
+}
+
 /* A call with or without the device, and its code: how often its batch, acceptance included, reached a frame outside. */
 static int reaches(int device, uint32_t code, const uint32_t call[RECORD])
 {
     uint32_t answer[RECORD];
-    int frame, count = 0;
     memset((void *)reached, 0, sizeof reached);
     outside_may(device ? PROT_NONE : PROT_READ | PROT_WRITE);
     expect(monitor_batch(FRAMES, SECURE, PAGES, 0, MONITORS, memory, MEMORY, ledger, LEDGER, call, RECORD, answer, RECORD) == 0, "a batch");
     outside_may(PROT_READ | PROT_WRITE);
     expect(answer[0] == code, "each call has its answer");
     expect(monitor_accepts(FRAMES, SECURE, PAGES, 0, MONITORS, memory, MEMORY, ledger, LEDGER), "acceptance after each call");
-    for (frame = 0; frame < FRAMES; frame++)
-        count += reached[frame];
-    expect(reached[0] == 0 && reached[1] == 0, "nothing reaches the monitor's frames");
-    return count;
+    return reached_outside();
 }
 
 #define REACHES(device, ...) reaches(device, MONITOR_DONE, (const uint32_t[RECORD]){__VA_ARGS__})
@@ -141,6 +147,25 @@ static void ran(void)
     ENDS_UNREACHED(MONITOR_FAULTED, MONITOR_FAULT);
 }
 
+/* Saved and read back over itself, with the device at work. */
+static void saved(void)
+{
+    static uint8_t block[MONITOR_BLOCK_BYTES];
+    uint32_t progress[MONITOR_PROGRESS_WORDS] = {0}, index, blocks = monitor_image_blocks(FRAMES, SECURE, PAGES, 0, MONITORS);
+    memset((void *)reached, 0, sizeof reached);
+    outside_may(PROT_NONE);
+    for (index = 0; index < blocks; index++) {
+        expect(monitor_image_write(FRAMES, SECURE, PAGES, 0, MONITORS, memory, MEMORY, ledger, LEDGER, 1, index, block, sizeof block) == 0,
+               "a block is written");
+        expect(monitor_image_read(FRAMES, SECURE, PAGES, 0, MONITORS, memory, MEMORY, ledger, LEDGER,
+                                  progress, MONITOR_PROGRESS_WORDS, block, sizeof block) == 0, "a block is read");
+    }
+    expect(monitor_image_end(FRAMES, SECURE, PAGES, 0, MONITORS, memory, MEMORY, ledger, LEDGER, progress, MONITOR_PROGRESS_WORDS) == 0,
+           "a whole image");
+    outside_may(PROT_READ | PROT_WRITE);
+    expect(blocks > 0 && reached_outside() == 0, "an image reaches nothing outside the secure frames");
+}
+
 int main(void)
 {
     static const uint32_t key[MONITOR_KEY_WORDS] = {1, 2, 3, 4, 5, 6, 7, 8};
@@ -158,7 +183,8 @@ int main(void)
 
     taken_down_and_grown();
     ran();
+    saved();
     if (!wrong)
-        printf("C: a device that writes after each of %d accesses changes no measurement; all 24 calls tried\n", accesses);
+        printf("C: a device that writes after each of %d accesses changes no measurement; all 24 calls and an image tried\n", accesses);
     return wrong;
 }

@@ -1,5 +1,5 @@
-/* A worked host: what the builder of a box writes around the monitor. The hardware is faked: fuse, timer, processor. An enclave is built,
-   run and stopped; every answer is checked; it prints a line for each call and exits with 0. */
+/* A worked host: what the builder of a box writes around the monitor. The hardware is faked: fuse, timer, processor, flash. An enclave is
+   built, run, saved over a power failure and stopped; every answer is checked; it prints a line for each call and exits with 0. */
 #include "monitor.h"
 
 #include <stdio.h>
@@ -59,14 +59,43 @@ static void power_up(void)
         wiped[word] = 0;
 }
 
-/* The key and every secure page are gone from what is lent, then from the lists. On real hardware the monitor's stack and the vector
-   registers are wiped here too: a service leaves words of both there. */
+/* ---- The host: saved images. Nobody but the host asks for them, and it decides which image is the one to restore. ---- */
+
+enum { IMAGE_WORDS = LEDGER + PAGES * MONITOR_FRAME_WORDS, BLOCKS = (IMAGE_WORDS + MONITOR_PAYLOAD_WORDS - 1) / MONITOR_PAYLOAD_WORDS };
+
+/* On the chip, and kept from everybody as the ledger is: the image has the key and every secure page in it. */
+static uint8_t flash[BLOCKS][MONITOR_BLOCK_BYTES];
+
+/* All blocks are of one state: between the first and the last no call is let in. */
+static void save(uint32_t number)
+{
+    uint32_t index;
+    must(monitor_image_blocks_on(&box) == BLOCKS, "the flash has room for an image");
+    for (index = 0; index < BLOCKS; index++)
+        must(monitor_image_write_on(&box, memory, MEMORY, ledger, LEDGER, number, index, flash[index], sizeof flash[index]) == MONITOR_DONE,
+             "a block is written");
+}
+
+/* Just after power comes up memory and ledger hold nothing, and are the spare themselves: what is refused is booted over. A host that is at
+   work has a second memory and ledger for this. */
+static uint32_t restore(uint32_t progress[MONITOR_PROGRESS_WORDS])
+{
+    uint32_t index;
+    memset(progress, 0, MONITOR_PROGRESS_WORDS * sizeof *progress);
+    for (index = 0; index < BLOCKS; index++)
+        monitor_image_read_on(&box, memory, MEMORY, ledger, LEDGER, progress, MONITOR_PROGRESS_WORDS, flash[index], sizeof flash[index]);
+    return monitor_image_end_on(&box, memory, MEMORY, ledger, LEDGER, progress, MONITOR_PROGRESS_WORDS);
+}
+
+/* The key and every secure page are gone from what is lent, then from the lists and the image. On real hardware the monitor's stack and the
+   vector registers are wiped here too: a service leaves words of both there. */
 static void power_down(void)
 {
     static uint32_t none[MONITOR_KEY_WORDS];
     boot_with(none);
     memset(call, 0, sizeof call);
     memset(answer, 0, sizeof answer);
+    memset(flash, 0, sizeof flash);
 }
 
 /* ---- The host: calls. Interrupts are off, and devices kept from all lent memory, while a service runs. ---- */
@@ -193,6 +222,9 @@ static bool trap(uint32_t call_at, uint32_t answer_at)
 /* A call, the answer's code and first value, and after how many instructions the timer fires. */
 struct row { uint32_t call[5], code, value, fires; };
 
+/* Power fails after so many of them, while the thread is suspended. */
+enum { FAILS = 7 };
+
 static const struct row day[] = {
     {{MONITOR_INIT_ADDR_SPACE, 0, 1}, MONITOR_DONE, 0, 0},
     {{MONITOR_INIT_TABLE, 0, 2, 0}, MONITOR_DONE, 0, 0},
@@ -220,6 +252,21 @@ static void asks(const struct row *row)
     must(mine[0] == row->code && mine[1] == row->value, "the answer expected");
 }
 
+/* Power fails, and all memory with it. One bit of the flash is lost as well: the block is named, and the image refused. Then it is whole
+   again, and the box comes back as it was saved, a suspended thread too. */
+static void power_fails(void)
+{
+    uint32_t progress[MONITOR_PROGRESS_WORDS];
+    save(1);
+    memset(memory, 0xAA, sizeof memory);
+    memset(ledger, 0xBB, sizeof ledger);
+    flash[40][99] ^= 8;
+    must(restore(progress) == MONITOR_BAD_BLOCK && progress[1] == 40, "a changed block is named");
+    flash[40][99] ^= 8;
+    must(restore(progress) == MONITOR_DONE && progress[2] == 1, "the image is whole and accepted");
+    printf("gateway: power failed; image %u of %d blocks is restored\n", (unsigned)progress[2], (int)BLOCKS);
+}
+
 /* What the system may not do at all. */
 static void refused(void)
 {
@@ -236,8 +283,11 @@ int main(void)
     size_t row;
     power_up();
     memory[PROGRAM * MONITOR_FRAME_WORDS] = 77;
-    for (row = 0; row < sizeof day / sizeof *day; row++)
+    for (row = 0; row < sizeof day / sizeof *day; row++) {
+        if (row == FAILS)
+            power_fails();
         asks(&day[row]);
+    }
     refused();
     must(monitor_accepts_on(&box, memory, MEMORY, ledger, LEDGER), "the box is in order");
     power_down();

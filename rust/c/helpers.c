@@ -74,11 +74,36 @@ static void mappings(void)
         }
 }
 
+/* An image of the smallest box, through the helpers: lengths at their borders, and back again. */
+static void images(void)
+{
+    static uint32_t memory[2 * MONITOR_FRAME_WORDS], ledger[64], other[2 * MONITOR_FRAME_WORDS], kept[64];
+    struct monitor_machine box = {2, 1, 1, 0, 1}, none = {2, 1, 1, 0, 0};
+    uint32_t key[MONITOR_KEY_WORDS] = {1, 2, 3, 4, 5, 6, 7, 8}, progress[MONITOR_PROGRESS_WORDS] = {0}, index;
+    uint8_t block[MONITOR_BLOCK_BYTES + 1];
+    uint8_t *odd = block + 1; /* a block may stand anywhere */
+    expect(monitor_image_blocks_on(&box) == 9 && monitor_image_blocks_on(&none) == 0, "how many blocks");
+    expect(monitor_boot_on(&box, key, MONITOR_KEY_WORDS, memory, 2048, ledger, 64) == MONITOR_DONE, "the smallest box boots");
+    expect(monitor_image_write_on(&box, memory, 2048, ledger, 64, 5, 0, block, MONITOR_BLOCK_BYTES + 1) == MONITOR_UNFIT, "a long block");
+    expect(monitor_image_write_on(&box, memory, 2048, ledger, 64, 5, 9, odd, MONITOR_BLOCK_BYTES) == MONITOR_UNFIT, "no such block");
+    expect(monitor_image_read_on(&box, other, 2048, kept, 64, progress, 3, odd, MONITOR_BLOCK_BYTES) == MONITOR_UNFIT, "a short progress");
+    for (index = 0; index < 9; index++) {
+        expect(monitor_image_write_on(&box, memory, 2048, ledger, 64, 5, index, odd, MONITOR_BLOCK_BYTES) == MONITOR_DONE, "a block out");
+        expect(monitor_image_read_on(&box, other, 2048, kept, 64, progress, MONITOR_PROGRESS_WORDS, odd, MONITOR_BLOCK_BYTES)
+               == MONITOR_DONE, "a block in");
+    }
+    expect(monitor_image_end_on(&box, other, 2048, kept, 64, progress, MONITOR_PROGRESS_WORDS) == MONITOR_DONE, "a whole image");
+    expect(memcmp(ledger, kept, sizeof kept) == 0 && memcmp(memory + 1024, other + 1024, 4096) == 0, "the same words");
+    expect(monitor_image_read_on(&box, other, 2048, kept, 64, progress, MONITOR_PROGRESS_WORDS, odd, MONITOR_BLOCK_BYTES)
+           == MONITOR_BAD_BLOCK && progress[1] == 9, "one block too many");
+}
+
 static void texts(void)
 {
     uint32_t number;
     expect(strcmp(monitor_code_text(MONITOR_NOT_FREE), "not free") == 0, "a code in words");
     expect(strcmp(monitor_call_text(MONITOR_SPARE_TABLE), "InitL2PTable") == 0, "a call's name");
+    expect(strcmp(monitor_code_text(MONITOR_BAD_BLOCK), "a bad block") == 0, "a code of an image");
     expect(strcmp(monitor_code_text(20), "no code of the monitor") == 0, "20 is not used");
     expect(strcmp(monitor_call_text(0), "no call of the monitor") == 0, "0 is no call");
     for (number = 0; number < 64; number++)
@@ -91,6 +116,7 @@ int main(void)
     machines();
     frames();
     mappings();
+    images();
     texts();
     snprintf(version, sizeof version, "%d.%d.%d", MONITOR_VERSION_MAJOR, MONITOR_VERSION_MINOR, MONITOR_VERSION_PATCH);
     expect(strcmp(version, MONITOR_VERSION) == 0, "one version");

@@ -13,6 +13,11 @@
 #define READ )
 #define WRITE )
 #define FRAMES )
+#define BLOCK )
+#define BLOCKS )
+#define PAYLOAD )
+#define PROGRESS )
+#define IMAGE )
 
 #include "monitor.h"
 

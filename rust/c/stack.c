@@ -10,7 +10,7 @@
 #include <string.h>
 
 enum { MEMORY = MONITOR_MOST_FRAMES * MONITOR_FRAME_WORDS, LEDGER = MONITOR_HEADER_WORDS + MONITOR_MOST_PAGES * MONITOR_RECORD_WORDS };
-enum { RECORD = MONITOR_RECORD_WORDS, LIST = MONITOR_MOST_CALLS * RECORD, STACK = 65536, PAINT = 0x5A, PASSED = 64 };
+enum { RECORD = MONITOR_RECORD_WORDS, LIST = MONITOR_MOST_CALLS * RECORD, STACK = 65536, PAINT = 0x5A, PASSED = 64, INDEX = 10 };
 
 static uint32_t memory[MEMORY], ledger[LEDGER], calls[LIST], answers[LIST];
 static const uint32_t key[MONITOR_KEY_WORDS] = {1, 2, 3, 4, 5, 6, 7, 8};
@@ -38,6 +38,10 @@ struct service {
 static struct service boot = {"monitor_boot", (void (*)(void))monitor_boot, 0};
 static struct service accepts = {"monitor_accepts", (void (*)(void))monitor_accepts, 0};
 static struct service batch = {"monitor_batch", (void (*)(void))monitor_batch, 0};
+static struct service image_blocks = {"monitor_image_blocks", (void (*)(void))monitor_image_blocks, 0};
+static struct service image_write = {"monitor_image_write", (void (*)(void))monitor_image_write, 0};
+static struct service image_read = {"monitor_image_read", (void (*)(void))monitor_image_read, 0};
+static struct service image_end = {"monitor_image_end", (void (*)(void))monitor_image_end, 0};
 
 static int wrong;
 
@@ -84,6 +88,22 @@ static void obeys(const struct monitor_machine *machine, size_t records)
     uint64_t words[14] = {BOX, LENT, (uintptr_t)calls, records * RECORD, (uintptr_t)answers, records * RECORD};
     if (measure(&batch, words) != MONITOR_DONE)
         complain("a batch that is not taken");
+}
+
+/* Saved and read back over itself: all blocks and the end, then one block too many. */
+static void is_saved(const struct monitor_machine *machine)
+{
+    static uint8_t block[MONITOR_BLOCK_BYTES];
+    static uint32_t progress[MONITOR_PROGRESS_WORDS];
+    uint64_t numbers[14] = {BOX}, write[14] = {BOX, LENT, 7, 0, (uintptr_t)block, sizeof block};
+    uint64_t read[14] = {BOX, LENT, (uintptr_t)progress, MONITOR_PROGRESS_WORDS, (uintptr_t)block, sizeof block};
+    uint32_t blocks = measure(&image_blocks, numbers);
+    memset(progress, 0, sizeof progress);
+    for (; write[INDEX] < blocks; write[INDEX]++)
+        if (measure(&image_write, write) != MONITOR_DONE || measure(&image_read, read) != MONITOR_DONE)
+            complain("a block that is not taken");
+    if (measure(&image_end, read) != MONITOR_DONE || measure(&image_read, read) != MONITOR_BAD_BLOCK)
+        complain("an image that does not end");
 }
 
 /* ---- Every kind of call ---- */
@@ -153,6 +173,7 @@ int main(int count, char **words)
         is_accepted(&boxes[box]);
         lives(&boxes[box], MONITOR_MOST_CALLS - MONITOR_MOST_CALLS % LIFE);
         lives(&boxes[box], BUSY);
+        is_saved(&boxes[box]);
         lives(&boxes[box], 0);
         refusals(&boxes[box]);
     }
@@ -160,6 +181,10 @@ int main(int count, char **words)
     compare(&boot, count, words);
     compare(&accepts, count, words);
     compare(&batch, count, words);
+    compare(&image_blocks, count, words);
+    compare(&image_write, count, words);
+    compare(&image_read, count, words);
+    compare(&image_end, count, words);
     puts("");
     return wrong;
 }

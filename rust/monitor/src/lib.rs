@@ -1,9 +1,10 @@
 //! The proved enclave monitor, safe to call from Rust.
 //!
 //! A box lends its memory and a ledger of its secure pages. The monitor has
-//! three services over them: *boot* writes a fresh ledger, *acceptance* says
-//! whether the words are in order, and a *batch* obeys a list of calls. The
-//! code behind them is proved; this crate gives its words names and types.
+//! services over them: *boot* writes a fresh ledger, *acceptance* says whether
+//! the words are in order, a *batch* obeys a list of calls, and a state is
+//! *saved* as an image in blocks and restored from them. The code behind them is
+//! proved; this crate gives its words names and types.
 //!
 //! ```
 //! use monitor::{Answer, Call, Key, Machine, Mapping, Monitor, Refusal};
@@ -43,8 +44,10 @@
 //! - [`Monitor`] keeps a machine's numbers with its memory and ledger, owned
 //!   or borrowed, and hands them to the services.
 //! - [`Call`] and [`Answer`] are the table of calls; [`Refusal`] the reasons.
+//! - [`Monitor::image`] gives the blocks of a saved image, [`Restore`] takes them;
+//!   [`BadImage`] is why an image is refused.
 //! - [`Memory`], [`Ledger`], [`Page`] and [`Slot`] read the lent words.
-//! - [`words`] is the three services as they are exported, words and numbers;
+//! - [`words`] is the services as they are exported, words and numbers;
 //!   [`layout`] has the sizes and places.
 //!
 //! It needs no `std`. The feature `alloc`, which is on unless it is turned off,
@@ -70,10 +73,12 @@
 #[cfg(feature = "alloc")]
 extern crate alloc;
 
+mod image;
 mod monitor;
 #[cfg(feature = "alloc")]
 mod owned;
 pub mod words;
 
+pub use image::{Blocks, Restore};
 pub use monitor::Monitor;
 pub use types::*;

@@ -1,5 +1,5 @@
-//! The three services over plain words, as the library exports them. Nothing
-//! is asked of the words: what does not fit gets 18, or a no, and stays put.
+//! The services over plain words, as the library exports them. Nothing is
+//! asked of the words: what does not fit gets 18, or a no, and stays put.
 //! [`crate::Unfit`] then has the reason.
 //!
 //! ```
@@ -67,6 +67,60 @@ mod c {
             calls_words: usize,
             answers: *mut u32,
             answers_words: usize,
+        ) -> u32;
+
+        pub fn monitor_image_blocks(
+            frames: u32,
+            secure: u32,
+            pages: u32,
+            monitor: u32,
+            monitors: u32,
+        ) -> u32;
+
+        pub fn monitor_image_write(
+            frames: u32,
+            secure: u32,
+            pages: u32,
+            monitor: u32,
+            monitors: u32,
+            memory: *const u32,
+            memory_words: usize,
+            ledger: *const u32,
+            ledger_words: usize,
+            number: u32,
+            index: u32,
+            block: *mut u8,
+            block_bytes: usize,
+        ) -> u32;
+
+        pub fn monitor_image_read(
+            frames: u32,
+            secure: u32,
+            pages: u32,
+            monitor: u32,
+            monitors: u32,
+            memory: *mut u32,
+            memory_words: usize,
+            ledger: *mut u32,
+            ledger_words: usize,
+            progress: *mut u32,
+            progress_words: usize,
+            block: *const u8,
+            block_bytes: usize,
+        ) -> u32;
+
+        pub fn monitor_image_end(
+            frames: u32,
+            secure: u32,
+            pages: u32,
+            monitor: u32,
+            monitors: u32,
+            memory: *const u32,
+            memory_words: usize,
+            ledger: *const u32,
+            ledger_words: usize,
+            progress: *mut u32,
+            progress_words: usize,
         ) -> u32;
     }
 }
@@ -136,6 +190,95 @@ pub fn batch(
             calls.len(),
             answers.as_mut_ptr(),
             answers.len(),
+        )
+    }
+}
+
+/// How many blocks a saved image of this box has; 0 where the numbers do not
+/// fit.
+pub fn image_blocks(m: Machine) -> u32 {
+    // SAFETY: nothing is lent.
+    unsafe { c::monitor_image_blocks(m.frames, m.secure, m.pages, m.monitor, m.monitors) }
+}
+
+/// Writes block `index` of the image of this state under this number, whether
+/// the state is accepted or not. The block is 512 bytes. [`DONE`] or [`UNFIT`].
+pub fn image_write(
+    m: Machine,
+    memory: &[u32],
+    ledger: &[u32],
+    number: u32,
+    index: u32,
+    block: &mut [u8],
+) -> u32 {
+    // SAFETY: as for `boot`.
+    unsafe {
+        c::monitor_image_write(
+            m.frames,
+            m.secure,
+            m.pages,
+            m.monitor,
+            m.monitors,
+            memory.as_ptr(),
+            memory.len(),
+            ledger.as_ptr(),
+            ledger.len(),
+            number,
+            index,
+            block.as_mut_ptr(),
+            block.len(),
+        )
+    }
+}
+
+/// Reads the next block into a spare memory and ledger. Progress is 4 words,
+/// all zero before the first block. [`DONE`] where the block is good, 25 from
+/// the first bad one on, 26 where acceptance has said no, or [`UNFIT`].
+pub fn image_read(
+    m: Machine,
+    memory: &mut [u32],
+    ledger: &mut [u32],
+    progress: &mut [u32],
+    block: &[u8],
+) -> u32 {
+    // SAFETY: as for `boot`.
+    unsafe {
+        c::monitor_image_read(
+            m.frames,
+            m.secure,
+            m.pages,
+            m.monitor,
+            m.monitors,
+            memory.as_mut_ptr(),
+            memory.len(),
+            ledger.as_mut_ptr(),
+            ledger.len(),
+            progress.as_mut_ptr(),
+            progress.len(),
+            block.as_ptr(),
+            block.len(),
+        )
+    }
+}
+
+/// No more blocks come. [`DONE`] where all were good and the spare is accepted,
+/// 25 where one was bad or is missing, 26 where acceptance says no, or
+/// [`UNFIT`].
+pub fn image_end(m: Machine, memory: &[u32], ledger: &[u32], progress: &mut [u32]) -> u32 {
+    // SAFETY: as for `boot`.
+    unsafe {
+        c::monitor_image_end(
+            m.frames,
+            m.secure,
+            m.pages,
+            m.monitor,
+            m.monitors,
+            memory.as_ptr(),
+            memory.len(),
+            ledger.as_ptr(),
+            ledger.len(),
+            progress.as_mut_ptr(),
+            progress.len(),
         )
     }
 }

@@ -1,11 +1,13 @@
-//! What is printed for debugging of a key, a memory, a ledger and a monitor: no word
-//! of the key, none of the memory, and no register that a suspended thread left in
-//! the ledger; whatever the words are, and wherever they were lent from. A call, an
-//! answer and a page that are printed by themselves show all their words: registers
-//! of a thread and loaded words too.
+//! What is printed for debugging of a key, a memory, a ledger, a monitor and an
+//! image on its way: no word of the key, none of the memory, and no register that a
+//! suspended thread left in the ledger; whatever the words are, and wherever they
+//! were lent from. A call, an answer and a page that are printed by themselves show
+//! all their words: registers of a thread and loaded words too.
 
 use monitor::layout::record_of;
-use monitor::{Answer, Call, Key, Machine, Mapping, Monitor, Page, Registers, Thread};
+use monitor::{
+    Answer, Call, Key, Ledger, Machine, Mapping, Memory, Monitor, Page, Registers, Restore, Thread,
+};
 use std::fmt::Debug;
 
 const KEY: [u32; 8] = [
@@ -55,8 +57,14 @@ fn nothing_is_given_away() {
     keeps_back(bench.ledger());
     keeps_back(bench.memory());
     keeps_back(&bench.ledger().key());
-    keeps_back(&monitor::Ledger::over(bench.ledger().words()));
-    keeps_back(&monitor::Ledger::over(bench.ledger_mut().words_mut()));
+    keeps_back(&Ledger::over(bench.ledger().words()));
+    keeps_back(&Ledger::over(bench.ledger_mut().words_mut()));
+    keeps_back(&bench.image(7).expect("it fits"));
+    let machine = bench.machine();
+    let spare = Restore::over(machine, Memory::zeros(machine), Ledger::zeros(machine));
+    let mut restore = spare.expect("it fits");
+    assert!(bench.image(7).expect("it fits").all(|block| restore.take(&block).is_ok()));
+    keeps_back(&restore);
     keeps_back(&bench.into_parts());
 }
 
@@ -66,7 +74,7 @@ fn whatever_the_words_are() {
     for words in [0, 1, 9, 31, 32, 63, 64, 288] {
         let mut ledger = vec![u32::MAX; words];
         ledger.iter_mut().skip(1).zip(KEY).for_each(|(word, key)| *word = key);
-        keeps_back(&monitor::Ledger::over(ledger));
+        keeps_back(&Ledger::over(ledger));
     }
 }
 
@@ -78,14 +86,14 @@ fn wherever_the_words_stand() {
     let before = [&KEY, ledger].concat();
     for words in [ledger, &before] {
         for late in 0..words.len() {
-            keeps_back(&monitor::Ledger::over(&words[late..]));
+            keeps_back(&Ledger::over(&words[late..]));
         }
     }
     // A word of the key that could be a page's number is none of a thread.
     let mut small = ledger.to_vec();
     small[1..9].copy_from_slice(&[1, 2, 3, 4, 5, 6, 7, 8]);
     for late in 1..9 {
-        let shown = format!("{:?}", monitor::Ledger::over(&small[late..]));
+        let shown = format!("{:?}", Ledger::over(&small[late..]));
         assert!(shown.starts_with("Ledger { pages: 7, running: out of order, "), "{shown}");
     }
 }

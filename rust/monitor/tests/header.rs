@@ -1,6 +1,6 @@
 //! The C headers have the same names, numbers, texts and version.
 
-use monitor::{layout, words, Answer, Call, Mapping, Refusal, Unfit};
+use monitor::{code, layout, Answer, BadImage, Call, Mapping, Refusal, Unfit};
 
 const HEADER: &str = concat!(
     include_str!("../../../include/monitor.h"),
@@ -60,7 +60,9 @@ fn codes() {
     for answer in [Answer::Done, Answer::Interrupted, Answer::Faulted] {
         agrees(&answer, answer.code(), &answer.to_string());
     }
-    agrees(&format_args!("Unfit"), words::UNFIT, Unfit::IN_WORDS);
+    agrees(&format_args!("Unfit"), code::UNFIT, Unfit::IN_WORDS);
+    agrees(&format_args!("BadBlock"), code::BAD_BLOCK, BadImage::BLOCK_IN_WORDS);
+    agrees(&BadImage::NotAccepted, code::NOT_ACCEPTED, BadImage::ACCEPTANCE_IN_WORDS);
 }
 
 #[test]
@@ -92,6 +94,9 @@ fn lengths() {
         ("RECORD_WORDS", layout::RECORD_WORDS),
         ("KEY_WORDS", layout::KEY_WORDS),
         ("MOST_CALLS", layout::MOST_CALLS),
+        ("BLOCK_BYTES", layout::BLOCK_BYTES),
+        ("PAYLOAD_WORDS", layout::PAYLOAD_WORDS),
+        ("PROGRESS_WORDS", layout::PROGRESS_WORDS),
     ] {
         assert!(defines(name, number), "{name}");
     }
@@ -103,8 +108,8 @@ fn no_more_names() {
     let count =
         |start: &str| HEADER.lines().filter(|line| line.trim_start().starts_with(start)).count();
     let names = HEADER.lines().filter(|line| line.trim_start().starts_with("MONITOR_"));
-    let texts = Call::NUMBERS.len() + Refusal::ALL.len() + 4;
-    assert_eq!(names.filter(|line| line.contains(" = ")).count(), texts + 8 + 3);
+    let texts = Call::NUMBERS.len() + Refusal::ALL.len() + 6;
+    assert_eq!(names.filter(|line| line.contains(" = ")).count(), texts + 11 + 3);
     assert_eq!(count("case "), texts);
     assert_eq!(count("#define MONITOR_VERSION"), 4);
 }

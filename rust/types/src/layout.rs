@@ -20,6 +20,12 @@ pub const MOST_TABLES: u32 = 256;
 pub const REGISTERS: usize = 16;
 /// r0-r15 and the flags.
 pub const SAVED_WORDS: usize = REGISTERS + 1;
+/// Bytes in a block of a saved image: 128 words, the lowest byte of each first.
+pub const BLOCK_BYTES: usize = 512;
+/// Words of the image in a block.
+pub const PAYLOAD_WORDS: usize = 124;
+/// Words that are lent for the progress of an image that is being read.
+pub const PROGRESS_WORDS: usize = 4;
 
 /// Header: the running thread's page plus 1, or 0.
 pub const RUNNING: usize = 0;
@@ -71,6 +77,30 @@ pub mod word {
     pub const INDEX: usize = 2;
     /// Of a data page: its mapping word.
     pub const MAPPING: usize = 2;
+}
+
+/// The words of a block.
+pub mod block {
+    /// The number of the image.
+    pub const NUMBER: usize = 0;
+    /// The block's index, from 0.
+    pub const INDEX: usize = 1;
+    /// How many blocks the image has.
+    pub const TOTAL: usize = 2;
+    /// Where the payload starts.
+    pub const PAYLOAD: usize = 3;
+    /// The check: the CRC-32 of all bytes before it.
+    pub const CHECK: usize = 127;
+}
+
+/// The words of the progress.
+pub mod progress {
+    /// The answer so far.
+    pub const ANSWER: usize = 0;
+    /// How many blocks came; once one is bad, its place.
+    pub const CAME: usize = 1;
+    /// The number of the image.
+    pub const NUMBER: usize = 2;
 }
 
 /// Where the record of this page stands in the ledger.

@@ -6,6 +6,7 @@
 //!   of a table, [`Rights`] what either allows.
 //! - [`Call`] and [`Answer`] are the table of calls, [`Row`] a row of it;
 //!   [`Refusal`] is why a call is refused, [`Unfit`] why a service says 18.
+//! - [`Block`] is a block of a saved image, [`BadImage`] why one is refused.
 //! - [`layout`] has the sizes and places, [`code`] the numbers of answers that
 //!   are no refusals.
 //!
@@ -20,6 +21,7 @@ extern crate alloc;
 mod answer;
 mod call;
 pub mod code;
+mod image;
 mod key;
 pub mod layout;
 mod ledger;
@@ -40,6 +42,7 @@ mod values;
 
 pub use answer::Answer;
 pub use call::{Call, Row};
+pub use image::{BadImage, Block};
 pub use key::Key;
 pub use ledger::Ledger;
 pub use machine::Machine;

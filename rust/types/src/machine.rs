@@ -1,4 +1,6 @@
-use crate::layout::{FRAME_WORDS, HEADER_WORDS, MOST_FRAMES, MOST_PAGES, RECORD_WORDS};
+use crate::layout::{
+    FRAME_WORDS, HEADER_WORDS, MOST_FRAMES, MOST_PAGES, PAYLOAD_WORDS, RECORD_WORDS,
+};
 use crate::rule::Rule;
 
 /// The box's numbers F, s, n, m and k: which frames there are, and whose.
@@ -101,5 +103,13 @@ impl Machine {
     /// page.
     pub const fn ledger_words(&self) -> usize {
         (self.pages as usize).saturating_mul(RECORD_WORDS).saturating_add(HEADER_WORDS)
+    }
+
+    /// The blocks of an image of this machine: its ledger, then its secure frames.
+    /// For a host that sets room aside; `words::image_blocks` of `monitor` is the
+    /// library's own word.
+    pub const fn image_blocks(&self) -> usize {
+        let secure = (self.pages as usize).saturating_mul(FRAME_WORDS);
+        self.ledger_words().saturating_add(secure).div_ceil(PAYLOAD_WORDS)
     }
 }

@@ -5,7 +5,7 @@ use second::random::allowed_pairs;
 use std::collections::BTreeSet;
 use types::code::UNFIT;
 use types::layout::RECORD_WORDS;
-use types::{Call, Refusal, Row, Unfit};
+use types::{BadImage, Call, Refusal, Row, Unfit};
 
 const RULES: &str = include_str!("../../../docs/RULES.md");
 
@@ -89,4 +89,16 @@ fn refusals_have_the_order_of_the_rules() {
 fn eighteen_means_what_the_rules_say() {
     let row = format!("| {UNFIT} | {} |", Unfit::IN_WORDS);
     assert!(RULES.lines().any(|line| line.starts_with(&row)), "{row}");
+}
+
+#[test]
+fn a_bad_image_is_what_the_rules_say() {
+    for (bad, words) in [
+        (BadImage::Block(0), BadImage::BLOCK_IN_WORDS),
+        (BadImage::NotAccepted, BadImage::ACCEPTANCE_IN_WORDS),
+    ] {
+        let row = format!("| {} | {words}; ", bad.code());
+        assert!(RULES.lines().any(|line| line.starts_with(&row)), "{row}");
+        assert!(Refusal::from_code(bad.code()).is_none());
+    }
 }

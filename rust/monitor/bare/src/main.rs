@@ -12,7 +12,7 @@ mod needed;
 
 use core::arch::{asm, global_asm};
 use core::hint::black_box;
-use monitor::{Answer, Call, Key, Ledger, Machine, Memory, Monitor, Unfit};
+use monitor::{Answer, Call, Key, Ledger, Machine, Memory, Monitor, Restore, Unfit};
 
 const BOX: Machine = Machine::BOX_A;
 
@@ -20,7 +20,7 @@ global_asm!(".globl _start", "_start:", "call {start}", "ud2", start = sym start
 
 extern "C" fn start() -> ! {
     exit(match shift() {
-        Ok([Answer::Done, Answer::Free { count: 6, lowest: 2 }]) if moves() => 0,
+        Ok(([Answer::Done, Answer::Free { count: 6, lowest: 2 }], true)) if moves() => 0,
         Ok(_) => 1,
         Err(_) => 2,
     })
@@ -37,13 +37,24 @@ fn moves() -> bool {
     })
 }
 
-/// Box A in words of the stack: one space, then what is free.
-fn shift() -> Result<[Answer; 2], Unfit> {
+/// Box A in words of the stack: one space, then what is free; and whether it comes
+/// back from a saved image.
+fn shift() -> Result<([Answer; 2], bool), Unfit> {
     let (mut memory, mut ledger) = ([0; BOX.memory_words()], [0; BOX.ledger_words()]);
     let (memory, ledger) = (Memory::over(&mut memory[..]), Ledger::over(&mut ledger[..]));
     let key = Key::new([1, 2, 3, 4, 5, 6, 7, 8]);
     let mut bench = Monitor::boot_over(BOX, memory, ledger, &key)?;
-    bench.batch_of([Call::InitAddrSpace { space: 0, first: 1 }, Call::FreePages])
+    let answers = bench.batch_of([Call::InitAddrSpace { space: 0, first: 1 }, Call::FreePages])?;
+    Ok((answers, comes_back(&bench)?))
+}
+
+/// Saved block by block, and restored into other words of the stack.
+fn comes_back(bench: &Monitor<&mut [u32], &mut [u32]>) -> Result<bool, Unfit> {
+    let (mut memory, mut ledger) = ([0; BOX.memory_words()], [0; BOX.ledger_words()]);
+    let (memory, ledger) = (Memory::over(&mut memory[..]), Ledger::over(&mut ledger[..]));
+    let mut restore = Restore::over(BOX, memory, ledger)?;
+    let taken = bench.image(1)?.all(|block| restore.take(&block).is_ok());
+    Ok(taken && restore.end().is_ok_and(|again| again == *bench))
 }
 
 fn exit(status: i32) -> ! {
