@@ -4,7 +4,7 @@ use crate::lent::{random_words, Lent};
 use crate::services::Services;
 use crate::tally::Tally;
 use crate::twins::Twins;
-use crate::Outcome;
+use crate::{images, Outcome};
 use second::cases::BOX_A;
 use second::layout::{
     FRAME_WORDS, HASH_WORDS, HEADER_WORDS, MOST_CALLS, MOST_FRAMES, MOST_PAGES, RECORD_WORDS,
@@ -30,7 +30,7 @@ pub fn ill_fitting(
     let unfit = by_turns(&unfit_machines());
     for machine in [unfit, by_turns(&BOUNDARY), near_the_limits(rng)] {
         let lent = as_if_fitting(rng, machine);
-        all_three(services, machine, lent, tally)?;
+        all_services(services, rng, machine, lent, tally)?;
     }
     other_lengths(services, rng, tally)?;
     other_call_lists(services, rng, tally)
@@ -93,9 +93,16 @@ fn as_if_fitting(rng: &mut Rng, machine: Machine) -> Lent {
     Lent::new(rng, &key, &memory, &ledger, &calls)
 }
 
-/// All three services on these words, whatever they say.
-fn all_three(services: &dyn Services, machine: Machine, lent: Lent, tally: &mut Tally) -> Outcome {
+/// All services on these words, whatever they say.
+fn all_services(
+    services: &dyn Services,
+    rng: &mut Rng,
+    machine: Machine,
+    lent: Lent,
+    tally: &mut Tally,
+) -> Outcome {
     let mut twins = Twins::new(services, machine, lent);
+    tally.unfit += twins.lend(|savers| images::as_lent(savers, rng, &mut tally.images))?;
     let batch = twins.batch_as_lent()?;
     let yes = twins.accepts()?;
     let boot = twins.boot(tally)?;
@@ -122,13 +129,13 @@ fn other_lengths(services: &dyn Services, rng: &mut Rng, tally: &mut Tally) -> O
                 _ => words.clear(),
             }
             lent.list(list).set(&words);
-            all_three(services, machine, lent, tally)?;
+            all_services(services, rng, machine, lent, tally)?;
         }
     }
     let mut lent = as_if_fitting(rng, machine);
     let words = rng.below(40) as usize;
     lent.key.set(&random_words(rng, words));
-    all_three(services, machine, lent, tally)
+    all_services(services, rng, machine, lent, tally)
 }
 
 /// Call lists that are no records or too many, with equal answer lists.
@@ -140,7 +147,7 @@ fn other_call_lists(services: &dyn Services, rng: &mut Rng, tally: &mut Tally) -
         let calls: Vec<u32> = (0..length).map(|word| u32::from(word % one == 0)).collect();
         lent.calls.set(&calls);
         lent.answers.set(&random_words(rng, length));
-        all_three(services, SMALL, lent, tally)?;
+        all_services(services, rng, SMALL, lent, tally)?;
     }
     Ok(())
 }

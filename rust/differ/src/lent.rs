@@ -2,44 +2,57 @@
 
 use second::random::Rng;
 
-/// Words on either side of a list.
+/// Words, or bytes, on either side of a list.
 const FENCE: usize = 8;
-const POST: u32 = 0xfe9c_e0fe;
 
-/// A list of words between two fences.
-#[derive(Clone, PartialEq, Eq)]
-pub struct Fenced(Vec<u32>);
+/// What lists are of.
+pub trait Lendable: Copy + PartialEq {
+    /// What stands on either side.
+    const POST: Self;
+}
 
-impl Fenced {
+impl Lendable for u32 {
+    const POST: u32 = 0xfe9c_e0fe;
+}
+
+impl Lendable for u8 {
+    const POST: u8 = 0xfe;
+}
+
+/// A list of words, or bytes, between two fences.
+#[derive(Clone, Default, PartialEq, Eq)]
+pub struct Fenced<T = u32>(Vec<T>);
+
+impl<T: Lendable> Fenced<T> {
     /// A list of these words.
-    pub fn new(words: &[u32]) -> Fenced {
+    pub fn new(words: &[T]) -> Fenced<T> {
         let mut list = Fenced(Vec::new());
         list.set(words);
         list
     }
 
     /// Other words, of any length, in its place.
-    pub fn set(&mut self, words: &[u32]) {
+    pub fn set(&mut self, words: &[T]) {
         self.0.clear();
-        self.0.extend([POST; FENCE]);
+        self.0.extend([T::POST; FENCE]);
         self.0.extend(words);
-        self.0.extend([POST; FENCE]);
+        self.0.extend([T::POST; FENCE]);
     }
 
     /// The words.
-    pub fn words(&self) -> &[u32] {
+    pub fn words(&self) -> &[T] {
         &self.0[FENCE..self.0.len() - FENCE]
     }
 
     /// The words, to be written.
-    pub fn words_mut(&mut self) -> &mut [u32] {
+    pub fn words_mut(&mut self) -> &mut [T] {
         let end = self.0.len() - FENCE;
         &mut self.0[FENCE..end]
     }
 
     /// The first word that differs, fences included: its place in the list,
     /// below zero before it, and both words.
-    pub fn difference(&self, other: &Fenced) -> Option<(isize, u32, u32)> {
+    pub fn difference(&self, other: &Fenced<T>) -> Option<(isize, T, T)> {
         if self.0 == other.0 {
             return None;
         }
@@ -48,7 +61,7 @@ impl Fenced {
     }
 }
 
-/// Everything that the three services are lent.
+/// Everything that boot, acceptance and batch are lent.
 #[derive(Clone)]
 pub struct Lent {
     /// Boot's key.
@@ -106,7 +119,7 @@ mod tests {
 
     #[test]
     fn a_word_past_either_end_is_seen() {
-        let list = Fenced::new(&[1, 2, 3]);
+        let list = Fenced::<u32>::new(&[1, 2, 3]);
         assert_eq!(list.difference(&list.clone()), None);
         for (place, word) in [(0, -8), (FENCE - 1, -1), (FENCE, 0), (FENCE + 3, 3)] {
             let mut other = list.clone();

@@ -3,7 +3,7 @@
 
 use differ::services::Proved;
 use differ::tally::Tally;
-use differ::{hashes, round};
+use differ::{checks, hashes, round};
 use std::process::ExitCode;
 use std::time::{Duration, Instant};
 
@@ -65,6 +65,7 @@ fn differ(run: &Run) -> Result<(), String> {
     let (start, mut tally) = (Instant::now(), Tally::default());
     let mut shown = start;
     hashes::hashes(&Proved, run.seed)?;
+    checks::checks(&Proved, run.seed)?;
     for seed in run.seed.. {
         let over = match run.length {
             Length::Gate => tally.rounds >= ROUNDS,

@@ -1,9 +1,9 @@
-//! The three services, and the hashes, by whoever does them.
+//! The services, the hashes and the check, by whoever does them.
 
 use second::sha::Hash;
 use second::Machine;
 
-/// The three services over lent words.
+/// The services over lent words.
 pub trait Services {
     /// Boot.
     fn boot(&self, m: Machine, key: &[u32], memory: &mut [u32], ledger: &mut [u32]) -> u32;
@@ -18,6 +18,35 @@ pub trait Services {
         calls: &[u32],
         answers: &mut [u32],
     ) -> u32;
+    /// Who saves images and reads them.
+    fn images(&self) -> &dyn Images;
+}
+
+/// Saved images, over lent words and bytes.
+pub trait Images {
+    /// How many blocks an image has.
+    fn blocks(&self, m: Machine) -> u32;
+    /// Writes a block.
+    fn write(
+        &self,
+        m: Machine,
+        memory: &[u32],
+        ledger: &[u32],
+        number: u32,
+        index: u32,
+        block: &mut [u8],
+    ) -> u32;
+    /// Reads a block.
+    fn read(
+        &self,
+        m: Machine,
+        memory: &mut [u32],
+        ledger: &mut [u32],
+        progress: &mut [u32],
+        block: &[u8],
+    ) -> u32;
+    /// Ends a reading.
+    fn end(&self, m: Machine, memory: &[u32], ledger: &[u32], progress: &mut [u32]) -> u32;
 }
 
 /// SHA-256 and HMAC of words.
@@ -28,6 +57,12 @@ pub trait Hashes {
     fn digest(&self, words: &[u32]) -> Hash;
     /// HMAC by a key of at most 16 words.
     fn hmac(&self, key: &[u32], text: &[u32]) -> Option<Hash>;
+}
+
+/// CRC-32 of bytes.
+pub trait Checks {
+    /// The check.
+    fn crc32(&self, bytes: &[u8]) -> u32;
 }
 
 /// The proved libraries.
@@ -57,6 +92,43 @@ impl Services for Proved {
     ) -> u32 {
         monitor::words::batch(numbers(m), memory, ledger, calls, answers)
     }
+
+    fn images(&self) -> &dyn Images {
+        self
+    }
+}
+
+impl Images for Proved {
+    fn blocks(&self, m: Machine) -> u32 {
+        monitor::words::image_blocks(numbers(m))
+    }
+
+    fn write(
+        &self,
+        m: Machine,
+        memory: &[u32],
+        ledger: &[u32],
+        number: u32,
+        index: u32,
+        block: &mut [u8],
+    ) -> u32 {
+        monitor::words::image_write(numbers(m), memory, ledger, number, index, block)
+    }
+
+    fn read(
+        &self,
+        m: Machine,
+        memory: &mut [u32],
+        ledger: &mut [u32],
+        progress: &mut [u32],
+        block: &[u8],
+    ) -> u32 {
+        monitor::words::image_read(numbers(m), memory, ledger, progress, block)
+    }
+
+    fn end(&self, m: Machine, memory: &[u32], ledger: &[u32], progress: &mut [u32]) -> u32 {
+        monitor::words::image_end(numbers(m), memory, ledger, progress)
+    }
 }
 
 impl Hashes for Proved {
@@ -70,6 +142,12 @@ impl Hashes for Proved {
 
     fn hmac(&self, key: &[u32], text: &[u32]) -> Option<Hash> {
         hash::hmac(key, text)
+    }
+}
+
+impl Checks for Proved {
+    fn crc32(&self, bytes: &[u8]) -> u32 {
+        crc::crc32(bytes)
     }
 }
 
@@ -94,5 +172,42 @@ impl Services for Second {
         answers: &mut [u32],
     ) -> u32 {
         second::batch(m, memory, ledger, calls, answers)
+    }
+
+    fn images(&self) -> &dyn Images {
+        self
+    }
+}
+
+impl Images for Second {
+    fn blocks(&self, m: Machine) -> u32 {
+        second::image_blocks(m)
+    }
+
+    fn write(
+        &self,
+        m: Machine,
+        memory: &[u32],
+        ledger: &[u32],
+        number: u32,
+        index: u32,
+        block: &mut [u8],
+    ) -> u32 {
+        second::image_write(m, memory, ledger, number, index, block)
+    }
+
+    fn read(
+        &self,
+        m: Machine,
+        memory: &mut [u32],
+        ledger: &mut [u32],
+        progress: &mut [u32],
+        block: &[u8],
+    ) -> u32 {
+        second::image_read(m, memory, ledger, progress, block)
+    }
+
+    fn end(&self, m: Machine, memory: &[u32], ledger: &[u32], progress: &mut [u32]) -> u32 {
+        second::image_end(m, memory, ledger, progress)
     }
 }

@@ -4,7 +4,7 @@ use crate::lent::{random_words, Lent};
 use crate::services::Services;
 use crate::tally::Tally;
 use crate::twins::Twins;
-use crate::Outcome;
+use crate::{expect, Outcome};
 use second::layout::{HASH_WORDS, MOST_CALLS, RECORD_WORDS};
 use second::random::{damage, limit_machines, outsider, random_machine, Rng};
 use second::{Machine, DONE, UNFIT};
@@ -31,13 +31,13 @@ fn plan(rng: &mut Rng, seed: u64) -> Plan {
     }
 }
 
-/// One shift from boot on.
-pub fn on_a_machine(
-    services: &dyn Services,
+/// One shift from boot on, to an accepted state.
+pub fn on_a_machine<'s>(
+    services: &'s dyn Services,
     rng: &mut Rng,
     seed: u64,
     tally: &mut Tally,
-) -> Outcome {
+) -> Result<Twins<'s>, String> {
     let Plan { machine, batches, damages } = plan(rng, seed);
     let mut twins = booted(services, rng, machine, tally)?;
     for turn in 0..batches {
@@ -52,14 +52,7 @@ pub fn on_a_machine(
             damaged(rng, &mut twins, tally)?;
         }
     }
-    Ok(())
-}
-
-fn expect(code: u32, expected: u32) -> Outcome {
-    match code == expected {
-        true => Ok(()),
-        false => Err(format!("both answer {code}, and {expected} was expected")),
-    }
+    Ok(twins)
 }
 
 /// Boot on words drawn by chance.

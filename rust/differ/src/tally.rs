@@ -1,5 +1,6 @@
 //! What a run has tried so far.
 
+use crate::images;
 use second::layout::{MOST_CALLS, MOST_FRAMES, MOST_PAGES, RECORD_WORDS};
 use second::random::Coverage;
 use std::collections::{BTreeMap, BTreeSet};
@@ -28,6 +29,8 @@ pub struct Tally {
     pub lengths: BTreeSet<usize>,
     /// Answer codes by call.
     pub coverage: Coverage,
+    /// Saved images.
+    pub images: images::tally::Images,
 }
 
 /// What a whole run must have met of each.
@@ -85,6 +88,7 @@ impl Tally {
             absent("n of", &PAGES, &self.pages),
             absent("records in a batch:", &BATCHES, &batches),
             absent("words in a call list:", &LENGTHS, &self.lengths),
+            self.images.missing(),
         ]
         .concat()
     }
@@ -92,7 +96,7 @@ impl Tally {
 
 impl fmt::Display for Tally {
     fn fmt(&self, out: &mut fmt::Formatter) -> fmt::Result {
-        write!(out, "{}", self.coverage)?;
+        write!(out, "{}{}", self.coverage, self.images)?;
         let [refused, accepted] = self.damaged;
         let all: u64 = self.batches.values().sum();
         let of = |size: usize| self.batches.get(&size).copied().unwrap_or(0);

@@ -1,5 +1,6 @@
 //! The same words lent to both programs.
 
+use crate::images::savers::{Savers, Shelf};
 use crate::lent::{random_words, Lent, NAMES};
 use crate::services::{Second, Services};
 use crate::tally::Tally;
@@ -7,6 +8,7 @@ use crate::Outcome;
 use second::layout::RECORD_WORDS;
 use second::random::{next_call, Rng, View};
 use second::{Machine, DONE};
+use std::mem::take;
 
 /// What is lent to the program under test and to the second program, always
 /// the same words but while a service is at work.
@@ -99,6 +101,18 @@ impl<'s> Twins<'s> {
         };
         let answers = (run(self.services, &mut self.ours), run(&Second, &mut self.theirs));
         self.agree("batch", answers)
+    }
+
+    /// Lends memory and ledger of both for saving images, and takes them back.
+    pub fn lend<T>(&mut self, work: impl FnOnce(&mut Savers<'s>) -> T) -> T {
+        let lent = [&mut self.ours, &mut self.theirs];
+        let shelves = lent.map(|lent| Shelf::new(take(&mut lent.memory), take(&mut lent.ledger)));
+        let mut savers = Savers::of(self.services.images(), self.machine, shelves);
+        let done = work(&mut savers);
+        for (lent, shelf) in [&mut self.ours, &mut self.theirs].into_iter().zip(savers.shelves()) {
+            (lent.memory, lent.ledger) = (shelf.memory, shelf.ledger);
+        }
+        done
     }
 
     /// So many calls drawn one after the other, each for the state that the

@@ -3,7 +3,7 @@
 mod wrong_entries;
 
 use differ::round;
-use differ::services::{Second, Services};
+use differ::services::{Images, Second, Services};
 use differ::tally::Tally;
 use second::calls::{number, Code};
 use second::layout::{
@@ -53,6 +53,10 @@ impl Services for Flaw {
             Flaw::Batch(batch) => batch(m, memory, ledger, calls, answers),
             _ => batch(m, memory, ledger, calls, answers),
         }
+    }
+
+    fn images(&self) -> &dyn Images {
+        &Second
     }
 }
 

@@ -1,7 +1,7 @@
 //! The second program with another reading of what is asked of a thread's
 //! entry, by InitThread or by acceptance.
 
-use differ::services::Services;
+use differ::services::{Images, Second, Services};
 use second::calls::{number, Code};
 use second::layout::{
     free_bit, kind, record_of, state, word, BLOCK_WORDS, HEADER_WORDS, RECORD_WORDS, RUNNING,
@@ -195,5 +195,9 @@ impl Services for Entries {
             return batch(m, memory, ledger, &legal, answers);
         }
         DONE
+    }
+
+    fn images(&self) -> &dyn Images {
+        &Second
     }
 }
