@@ -1,9 +1,9 @@
 //! The table of calls, in text: names, arguments, refusals in order.
 
 use std::fmt::Write;
-use types::code::UNFIT;
+use types::code::{BAD_BLOCK, NOT_ACCEPTED, UNFIT};
 use types::layout::REGISTERS;
-use types::{Answer, Call, Refusal, Row, Unfit};
+use types::{Answer, BadImage, Call, Refusal, Row, Unfit};
 
 /// The first call while a thread runs; those before it are the system's.
 const OF_RUN: u32 = 32;
@@ -70,8 +70,15 @@ fn codes() -> String {
         writeln!(text, "{:3}  {answer}: {}", answer.code(), given_by(answer.code()))
             .expect("a string");
     }
-    let unfit = Unfit::IN_WORDS;
-    text + &format!("\nOf boot or of a whole batch, never of a call:\n\n{UNFIT:3}  {unfit}\n")
+    text += "\nOf a whole service, never of a call; the last two of an image that is read:\n\n";
+    for (code, words) in [
+        (UNFIT, Unfit::IN_WORDS),
+        (BAD_BLOCK, BadImage::BLOCK_IN_WORDS),
+        (NOT_ACCEPTED, BadImage::ACCEPTANCE_IN_WORDS),
+    ] {
+        writeln!(text, "{code:3}  {words}").expect("a string");
+    }
+    text
 }
 
 /// The calls that answer this code where they are not refused.

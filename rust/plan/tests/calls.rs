@@ -46,4 +46,5 @@ fn every_call_in_its_group_and_every_code() {
     assert!(shown.contains(" 32  interrupted, the thread is suspended: Interrupt\n"));
     assert!(shown.contains(" 33  fault, the run has ended: Fault, Load, Store\n"));
     assert!(shown.contains("  0  done: every call but Interrupt, Fault\n"));
+    assert!(shown.ends_with(" 25  a bad block\n 26  acceptance says no\n"));
 }

@@ -85,10 +85,12 @@ fn what_is_wrong_is_said() {
 fn nothing_is_written() {
     let folder = std::env::temp_dir().join(format!("plan-{}", std::process::id()));
     let (state, picture) = (folder.join("state"), folder.join("a.svg"));
+    let image = folder.join("a.image");
     std::fs::create_dir(&folder).expect("made");
     let name = |path: &std::path::Path| path.to_str().expect("UTF-8").to_string();
     assert!(check(&["run", "-", "--state", &name(&state)], b"13;").status.success());
     assert!(check(&["picture", &name(&picture), "-"], b"13;").status.success());
+    assert!(check(&["run", "-", "--save", &name(&image)], b"13;").status.success());
     let files = std::fs::read_dir(&folder).expect("a folder").count();
     std::fs::remove_dir(&folder).expect("an empty folder");
     assert_eq!(files, 0);

@@ -6,8 +6,9 @@
 //!   [`shift`] the worked shift.
 //! - [`picture`] and [`svg`] draw the ledger, [`why`] says why a state is not
 //!   accepted.
-//! - [`mod@write`] writes whole files.
+//! - [`image`] saves a box and restores it, [`mod@write`] writes whole files.
 
+pub mod image;
 pub mod measure;
 pub mod picture;
 pub mod player;
@@ -26,9 +27,12 @@ pub(crate) const COLUMNS: usize = 80;
 /// A fresh box. Before boot each word of memory holds its own place, so that
 /// copied pages can be told apart; boot zeroes the secure frames.
 pub fn fresh(machine: Machine, key: &Key) -> Result<Monitor, Unfit> {
-    // Numbers that do not fit are refused whatever is lent, and could ask for
-    // more than there is.
-    let lent = if machine.fits() { machine } else { Machine { frames: 0, pages: 0, ..machine } };
-    let memory = Memory::over((0..lent.memory_words() as u32).collect());
-    Monitor::boot_over(machine, memory, Ledger::zeros(lent), key)
+    Monitor::boot_over(machine, places(machine), Ledger::zeros(machine), key)
+}
+
+/// A memory in which each word holds its own place. Of numbers that do not fit it
+/// has none: they are refused whatever is lent, and could ask for more than there is.
+pub(crate) fn places(machine: Machine) -> Memory {
+    let words = if machine.fits() { machine.memory_words() } else { 0 };
+    Memory::over((0..words as u32).collect())
 }

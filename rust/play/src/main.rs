@@ -35,7 +35,7 @@ fn played(words: &[OsString]) -> Result<bool, Stop> {
     };
     match &asked {
         Asked::Shift => print(shift::shift(in_colour())?).map(|()| true),
-        Asked::Run(asked) => run::run(asked, text, in_colour(), out),
+        Asked::Run(asked) => run::run(asked, text, &looked.images, in_colour(), out),
         Asked::Calls => print(calls::calls()).map(|()| true),
         Asked::Measure(plan) => run::measure(&plan.fresh, text, out),
         Asked::Why(asked) => {
@@ -47,10 +47,10 @@ fn played(words: &[OsString]) -> Result<bool, Stop> {
 }
 
 /// Whether more than printing is asked for, so that a closed pipe ends nothing:
-/// a state that is written, or a verdict for the status.
+/// a state or an image that is written, or a verdict for the status.
 fn goes_on(asked: &Asked, text: &Text) -> bool {
     match asked {
-        Asked::Run(run) => run.state.is_some() || text.expects(),
+        Asked::Run(run) => run.state.is_some() || run.save.is_some() || text.expects(),
         Asked::Measure(_) => text.expects(),
         Asked::Why(_) => true,
         Asked::Shift | Asked::Calls | Asked::Picture(_) => false,

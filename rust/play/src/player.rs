@@ -67,7 +67,12 @@ impl<'p> Player<'p> {
     /// The plan on a fresh box.
     pub fn new(text: &'p Text, asked: &Fresh) -> Result<Player<'p>, Stop> {
         let bench = fresh(asked.machine, &asked.key).map_err(|fault| fault.to_string())?;
-        Ok(Player { text, bench, met: true })
+        Ok(Player::on(text, bench))
+    }
+
+    /// The plan on this box.
+    pub fn on(text: &'p Text, bench: Monitor) -> Player<'p> {
+        Player { text, bench, met: true }
     }
 
     /// The box.

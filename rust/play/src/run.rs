@@ -5,9 +5,9 @@ use crate::measure::Steps;
 use crate::picture::picture;
 use crate::player::Player;
 use crate::svg::svg;
-use crate::{measure, shift, table, write};
+use crate::{image, measure, shift, table, write};
 use monitor::{Machine, Monitor};
-use plan::files::marked;
+use plan::files::{marked, Images};
 use plan::options::{Form, Fresh, Picture, Run};
 use plan::stop::Stop;
 use plan::text::Text;
@@ -16,8 +16,18 @@ use std::path::Path;
 
 /// Plays the plan and prints its answers as they come; whether they were as
 /// the plan expects them.
-pub fn run(asked: &Run, text: &Text, colour: bool, out: &mut impl Write) -> Result<bool, Stop> {
-    let mut player = Player::new(text, &asked.plan.fresh)?;
+pub fn run(
+    asked: &Run,
+    text: &Text,
+    images: &Images,
+    colour: bool,
+    out: &mut impl Write,
+) -> Result<bool, Stop> {
+    let fresh = &asked.plan.fresh;
+    let mut player = match &asked.load {
+        Some(file) => Player::on(text, image::restored(file, fresh.machine, &images.loaded)?),
+        None => Player::new(text, fresh)?,
+    };
     if asked.form != Form::Json {
         out.write_all(table::head().as_bytes())?;
     }
@@ -38,8 +48,14 @@ pub fn run(asked: &Run, text: &Text, colour: bool, out: &mut impl Write) -> Resu
         write!(out, "\n{}", picture(player.bench().ledger(), colour))?;
     }
     out.flush()?;
-    asked.state.as_ref().map_or(Ok(()), |folder| write::state(folder, player.bench()))?;
+    left(asked, images, player.bench())?;
     Ok(player.met())
+}
+
+/// Writes what is asked for of the box after a plan.
+fn left(asked: &Run, images: &Images, bench: &Monitor) -> Result<(), Stop> {
+    asked.state.as_ref().map_or(Ok(()), |folder| write::state(folder, bench))?;
+    asked.save.as_ref().map_or(Ok(()), |file| image::save(file, images.number, bench))
 }
 
 /// Plays the plan and prints what each space measures once it is final, then

@@ -6,9 +6,14 @@ use plan::files::{LEDGER, MEMORY};
 use plan::shown::shown;
 use plan::stop::Stop;
 use std::ffi::OsStr;
-use std::fs::OpenOptions;
+use std::fs::{File, OpenOptions};
 use std::io::{self, Write};
+use std::os::unix::fs::OpenOptionsExt;
 use std::path::{Path, PathBuf};
+
+/// Who may read and write a new file: whoever the system lets, or its owner alone.
+const ANYBODY: u32 = 0o666;
+const OWNER: u32 = 0o600;
 
 /// A file that stands beside its place, whole, and is gone unless it is moved
 /// there.
@@ -19,12 +24,20 @@ struct Beside {
 
 impl Beside {
     fn write(place: &Path, bytes: &[u8]) -> Result<Beside, Stop> {
+        Beside::written(place, ANYBODY, |out| out.write_all(bytes))
+    }
+
+    fn written(
+        place: &Path,
+        mode: u32,
+        write: impl FnOnce(&mut File) -> io::Result<()>,
+    ) -> Result<Beside, Stop> {
         let place = place.canonicalize().unwrap_or(place.into());
         let file = beside(&place);
-        let opened = OpenOptions::new().write(true).create_new(true).open(&file);
+        let opened = OpenOptions::new().write(true).create_new(true).mode(mode).open(&file);
         let mut out = opened.map_err(|fault| unwritten(&place, fault))?;
         let new = Beside { place, file };
-        out.write_all(bytes).map_err(|fault| unwritten(&new.place, fault))?;
+        write(&mut out).map_err(|fault| unwritten(&new.place, fault))?;
         Ok(new)
     }
 
@@ -47,6 +60,13 @@ impl Drop for Beside {
 /// Writes a file beside its place, then moves it there.
 pub fn whole(path: &Path, bytes: &[u8]) -> Result<(), Stop> {
     Beside::write(path, bytes)?.moved()
+}
+
+/// Writes a file for its owner alone. All of it is on the disk before it is moved to
+/// its place, so that no unfinished file ever stands there.
+pub fn private(path: &Path, write: impl FnOnce(&mut File) -> io::Result<()>) -> Result<(), Stop> {
+    let synced = |out: &mut File| write(out).and_then(|()| out.sync_all());
+    Beside::written(path, OWNER, synced)?.moved()
 }
 
 /// Writes a box's words to a folder, which is made if it is missing. Both files

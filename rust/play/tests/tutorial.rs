@@ -103,17 +103,41 @@ fn every_call_says_what_it_expects() {
     }
 }
 
-/// Nothing is said on standard error: all answers are as expected, and no call
-/// is short of arguments.
+/// Nothing more is said on standard error: all answers are as expected, and no
+/// call is short of arguments. What is typed first leaves its files to the rest.
 #[test]
 fn what_is_typed_prints_what_is_shown() {
     let folder = laid_out("tutorial-typed");
-    for (words, said) in commands() {
+    for (words, shown) in commands() {
         let out = play(&folder, &words);
-        assert!(out.status.success() && out.stderr.is_empty(), "{words:?}: {out:?}");
+        assert!(out.status.success(), "{words:?}: {out:?}");
+        let (said, lines): (Vec<&str>, Vec<&str>) =
+            shown.into_iter().partition(|line| line.starts_with("box: "));
         let printed = String::from_utf8(out.stdout).expect("UTF-8");
-        assert!(agrees(&said, &printed.lines().collect::<Vec<_>>()), "{words:?}:\n{printed}");
+        assert!(agrees(&lines, &printed.lines().collect::<Vec<_>>()), "{words:?}:\n{printed}");
+        let on_error = String::from_utf8(out.stderr).expect("UTF-8");
+        assert_eq!(said, on_error.lines().collect::<Vec<_>>(), "{words:?}");
     }
+}
+
+/// One image is restored as often as one likes. The page shows what is said of it
+/// with one bit changed.
+#[test]
+fn a_changed_image_is_named() {
+    let (folder, plan) = (laid_out("tutorial-image"), format!("{PLANS}/6-restored.plan"));
+    let saved = format!("{PLANS}/6-saved.plan");
+    assert!(play(&folder, &["run", &saved, "--save", "bench.image"]).status.success());
+    let restored = || play(&folder, &["run", &plan, "--load", "bench.image"]);
+    assert_eq!(restored(), restored());
+    assert!(restored().status.success());
+    let file = folder.0.join("bench.image");
+    let mut image = std::fs::read(&file).expect("an image");
+    image[5 * 512 + 100] ^= 1;
+    std::fs::write(&file, image).expect("written");
+    let out = restored();
+    assert_eq!(out.status.code(), Some(2));
+    let said = String::from_utf8(out.stderr).expect("UTF-8");
+    assert!(PAGE.contains(&format!("\n    {said}")), "{said}");
 }
 
 /// The page shows what is said of an answer that was not expected.

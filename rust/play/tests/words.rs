@@ -16,7 +16,7 @@ fn bad_options() {
     std::fs::write(folder.0.join("plan"), "1;").expect("written");
     let commas = "numbers up to 4294967295 with commas between";
     let five = format!("--machine: expected F,s,n,m,k, five {commas}, found");
-    let options = "expected --machine, --key, --json, --ledger or --state, found";
+    let options = "expected --machine, --key, --json, --ledger, --state, --save or --load, found";
     let cases: &[(&[&str], String)] = &[
         (
             &["walk"],
@@ -59,6 +59,17 @@ fn bad_options() {
             &["run", "plan", "--state", "a", "--state", "b"],
             "--state: expected once, found twice".into(),
         ),
+        (&["run", "plan", "--save"], "--save: expected a file, found nothing".into()),
+        (&["run", "plan", "--load", ""], "--load: expected a file, found nothing".into()),
+        (
+            &["run", "plan", "--load", "a", "--load", "a"],
+            "--load: expected once, found twice".into(),
+        ),
+        (
+            &["run", "plan", "--load", "a", "--key", "1,2,3,4,5,6,7,8"],
+            "expected --key or --load, found both: an image has the key in it".into(),
+        ),
+        (&["measure", "plan", "--load", "a"], "expected --machine or --key, found '--load'".into()),
         (
             &["run", "plan", "--machine", "16,6,8,0,2", "--machine", "16,6,8,0,2"],
             "--machine: expected once, found twice".into(),
@@ -93,7 +104,7 @@ fn bad_keys() {
     let folder = Folder::new("bad-keys");
     std::fs::write(folder.0.join("plan"), "1;").expect("written");
     let eight = "--key: expected 8 numbers up to 4294967295 with commas between,";
-    let options = "expected --machine, --key, --json, --ledger or --state,";
+    let options = "expected --machine, --key, --json, --ledger, --state, --save or --load,";
     for (words, said) in [
         (&["--key"][..], format!("{eight} found nothing")),
         (&["--key", ""], format!("{eight} found 1")),

@@ -2,16 +2,18 @@
 //! read with bounds.
 
 pub mod beside;
+mod image;
 mod picture;
 mod plain;
 mod source;
 mod state;
 
+pub use image::Images;
 pub use picture::marked;
 pub use source::MOST_BYTES;
 pub use state::{State, LEDGER, MEMORY};
 
-use crate::options::{Asked, Run, Source};
+use crate::options::{Asked, Source};
 use crate::stop::Stop;
 use crate::text::Text;
 
@@ -21,13 +23,19 @@ pub struct Looked {
     pub text: Text,
     /// The state; an empty one where none is to be explained.
     pub state: State,
+    /// The saved images; none but of a run.
+    pub images: Images,
 }
 
 /// Looks at all files, or complains. Nothing is left written. A plan that was
 /// passed on is read from standard input, wherever it stood.
 pub fn look(asked: &Asked, passed_on: bool) -> Result<Looked, Stop> {
+    let mut images = Images::default();
     match asked {
-        Asked::Run(Run { state: Some(folder), .. }) => state::may_write(folder)?,
+        Asked::Run(run) => {
+            run.state.as_ref().map_or(Ok(()), |folder| state::may_write(folder))?;
+            images = Images::look(run)?;
+        }
         Asked::Picture(picture) => picture::may_write(&picture.file)?,
         _ => {}
     }
@@ -38,5 +46,5 @@ pub fn look(asked: &Asked, passed_on: bool) -> Result<Looked, Stop> {
     let text = asked.source().map_or(Ok(Text::default()), |source| {
         source::text(source, if passed_on { &Source::Input } else { source })
     });
-    Ok(Looked { text: text?, state })
+    Ok(Looked { text: text?, state, images })
 }

@@ -76,6 +76,10 @@ pub struct Run {
     pub form: Form,
     /// The folder for the state after the plan.
     pub state: Option<OsString>,
+    /// The image that the box is restored from; none is a fresh box.
+    pub load: Option<OsString>,
+    /// The file for an image of the box after the plan.
+    pub save: Option<OsString>,
 }
 
 /// How answers are printed.

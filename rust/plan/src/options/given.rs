@@ -17,6 +17,8 @@ pub struct Given {
     pub json: Option<()>,
     pub ledger: Option<Form>,
     pub state: Option<OsString>,
+    pub load: Option<OsString>,
+    pub save: Option<OsString>,
 }
 
 impl Given {
@@ -56,11 +58,9 @@ impl Given {
                 let end = words.next_if(|word| *word == "end");
                 once(option, &mut self.ledger, end.map_or(Form::Ledger, |_| Form::LedgerAtEnd))
             }
-            "--state" => {
-                let folder = words.next().filter(|folder| !folder.is_empty());
-                let folder = folder.ok_or("--state: expected a folder, found nothing")?;
-                once(option, &mut self.state, folder.into())
-            }
+            "--state" => once(option, &mut self.state, named(option, "folder", words.next())?),
+            "--load" => once(option, &mut self.load, named(option, "file", words.next())?),
+            "--save" => once(option, &mut self.save, named(option, "file", words.next())?),
             other => Err(unknown(other.as_ref(), &[])),
         }
     }
@@ -69,6 +69,12 @@ impl Given {
 /// A word that starts with a dash; the dash alone is standard input.
 fn is_option(word: &OsStr) -> bool {
     word != "-" && word.as_encoded_bytes().starts_with(b"-")
+}
+
+/// The name that an option takes.
+fn named(option: &str, kind: &str, word: Option<&OsStr>) -> Result<OsString, Complaint> {
+    let name = word.filter(|name| !name.is_empty());
+    name.map(OsString::from).ok_or_else(|| format!("{option}: expected a {kind}, found nothing"))
 }
 
 fn once<T>(option: &str, place: &mut Option<T>, value: T) -> Result<(), Complaint> {

@@ -28,7 +28,7 @@ pub fn read(words: &[OsString]) -> Result<Asked, Complaint> {
 }
 
 fn run(words: &[OsString]) -> Result<Run, Complaint> {
-    let options = ["--machine", "--key", "--json", "--ledger", "--state"];
+    let options = ["--machine", "--key", "--json", "--ledger", "--state", "--save", "--load"];
     let mut given = Given::read(words, &options, 1)?;
     let form = match (given.json, given.ledger) {
         (Some(()), Some(_)) => {
@@ -38,8 +38,11 @@ fn run(words: &[OsString]) -> Result<Run, Complaint> {
         (None, Some(form)) => form,
         (None, None) => Form::Table,
     };
-    let state = given.state.take();
-    Ok(Run { plan: plan("run", &given)?, form, state })
+    if given.key.is_some() && given.load.is_some() {
+        return Err("expected --key or --load, found both: an image has the key in it".into());
+    }
+    let (state, load, save) = (given.state.take(), given.load.take(), given.save.take());
+    Ok(Run { plan: plan("run", &given)?, form, state, load, save })
 }
 
 fn plan(command: &str, given: &Given) -> Result<Plan, Complaint> {

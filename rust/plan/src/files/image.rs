@@ -1,0 +1,115 @@
+use super::beside::may_stand;
+use super::plain::{endless, reason};
+use super::state::folder_of;
+use crate::options::Run;
+use crate::shown::shown;
+use crate::stop::Stop;
+use crate::Complaint;
+use std::ffi::OsStr;
+use std::fs::File;
+use std::io::{self, Read};
+use std::path::Path;
+use types::layout::{block, BLOCK_BYTES, MOST_FRAMES, MOST_PAGES};
+use types::Machine;
+
+/// Bytes in a word, the lowest first.
+const WORD: usize = 4;
+/// The largest box.
+const LARGEST: Machine =
+    Machine { frames: MOST_FRAMES, secure: 1, pages: MOST_PAGES, monitor: 0, monitors: 1 };
+
+/// The saved images of a run.
+#[derive(Default)]
+pub struct Images {
+    /// The bytes of the one that is loaded, up to a block more than its box has;
+    /// what they are worth is the library's to say.
+    pub loaded: Vec<u8>,
+    /// The number of the one that is saved: one more than that of the image that is
+    /// overwritten, or else of the one that is loaded; 1 where there is neither.
+    pub number: u32,
+}
+
+impl Images {
+    /// Those that are asked for.
+    pub(super) fn look(run: &Run) -> Result<Images, Stop> {
+        let loaded = match &run.load {
+            Some(file) => load(file, run.plan.fresh.machine)?,
+            None => Vec::new(),
+        };
+        let before = match &run.save {
+            Some(file) => may_write(file)?.or_else(|| number_of(&loaded)),
+            None => None,
+        };
+        Ok(Images { number: before.unwrap_or(0).wrapping_add(1), loaded })
+    }
+}
+
+/// The bytes of an image for this box.
+fn load(file: &OsStr, machine: Machine) -> Result<Vec<u8>, Complaint> {
+    let refused = |why: &str| {
+        format!("--load: {}: expected a saved image, and it cannot be read: {why}", shown(file))
+    };
+    let unread = |fault: io::Error| refused(reason(&fault));
+    let kind = Path::new(file).metadata().map_err(unread)?.file_type();
+    if !kind.is_file() {
+        return Err(refused(endless(kind).unwrap_or("it is no plain file")));
+    }
+    bytes(Path::new(file), machine).map_err(unread)
+}
+
+/// The bytes of a file, up to a block more than an image of this box has.
+fn bytes(path: &Path, machine: Machine) -> io::Result<Vec<u8>> {
+    let mut bytes = Vec::new();
+    let most = (machine.image_blocks() + 1) * BLOCK_BYTES;
+    File::open(path)?.take(most as u64).read_to_end(&mut bytes)?;
+    Ok(bytes)
+}
+
+/// Whether an image may be written to this file: its folder is there, and what
+/// stands there already is empty or an image, whose number is given.
+fn may_write(file: &OsStr) -> Result<Option<u32>, Stop> {
+    let complain = |what: String| Stop::Asked(format!("--save: {}: {what}", shown(file)));
+    let path = Path::new(file);
+    let mut number = None;
+    match path.symlink_metadata() {
+        Err(fault) if fault.kind() == io::ErrorKind::NotFound => {
+            folder_of(path).map_err(complain)?;
+        }
+        Err(fault) => return Err(Stop::File(shown(file), fault)),
+        Ok(_) => {
+            let expected = "expected nothing, an empty file or a saved image";
+            let stands = stands(path).filter(|bytes| bytes.is_empty() || is_image(bytes));
+            let else_there = || complain(format!("{expected}, found something else"));
+            number = number_of(&stands.ok_or_else(else_there)?);
+        }
+    }
+    may_stand(&path.canonicalize().unwrap_or(path.into()))?;
+    Ok(number)
+}
+
+/// The bytes of a plain file, as far as the largest image goes and a block more.
+fn stands(path: &Path) -> Option<Vec<u8>> {
+    let file = path.metadata().is_ok_and(|about| about.is_file());
+    file.then(|| bytes(path, LARGEST).ok()).flatten()
+}
+
+/// Whether these are all the blocks of one image, in order, by what their first
+/// words say. Whether they are good is not asked: they are to be overwritten.
+fn is_image(bytes: &[u8]) -> bool {
+    let (blocks, number) = (bytes.chunks_exact(BLOCK_BYTES), number_of(bytes));
+    let (total, whole) = (blocks.len() as u32, blocks.remainder().is_empty());
+    let head =
+        |block: &[u8]| [block::NUMBER, block::INDEX, block::TOTAL].map(|place| word(block, place));
+    let own = |(index, block)| head(block) == [number, Some(index), Some(total)];
+    whole && (0..).zip(blocks).all(own)
+}
+
+/// The number that the first block of an image gives.
+fn number_of(bytes: &[u8]) -> Option<u32> {
+    word(bytes, block::NUMBER)
+}
+
+fn word(bytes: &[u8], place: usize) -> Option<u32> {
+    let bytes = bytes.get(place * WORD..(place + 1) * WORD)?;
+    Some(u32::from_le_bytes(bytes.try_into().expect("a word")))
+}

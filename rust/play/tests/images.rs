@@ -1,0 +1,197 @@
+//! Saved images in files: what comes back, what is refused, what is overwritten.
+
+mod common;
+
+use common::{complaint, play_with, Folder};
+use std::fs;
+use std::os::unix::fs::PermissionsExt;
+use std::path::Path;
+use std::process::Output;
+
+/// A thread that runs, with a word of its own in page 3.
+const BUILD: &[u8] = b"2 0 1; 4 0 2 0; 6 0 3 4099 5; 3 0 4 4096; 8 0; 9 4 0 0 0; 42 4096 77;";
+const BLOCK: usize = 512;
+const TOTAL: usize = 69;
+
+fn run(folder: &Folder, words: &[&str], plan: &[u8]) -> Output {
+    play_with(folder, &[&["run", "-"], words].concat(), plan)
+}
+
+/// What it says where it saves.
+fn said(out: &Output) -> String {
+    assert!(out.status.success(), "{out:?}");
+    String::from_utf8(out.stderr.clone()).expect("UTF-8")
+}
+
+fn key_line(file: &str, number: u32) -> String {
+    format!("box: {file} holds the bench's key (image {number}, {TOTAL} blocks)\n")
+}
+
+fn saved(folder: &Folder, plan: &[u8]) -> Vec<u8> {
+    assert_eq!(said(&run(folder, &["--save", "a"], plan)), key_line("a", 1));
+    fs::read(folder.0.join("a")).expect("an image")
+}
+
+/// Why an image of these bytes is refused; nothing is played.
+fn refused(folder: &Folder, bytes: &[u8]) -> String {
+    fs::write(folder.0.join("bad"), bytes).expect("written");
+    let out = run(folder, &["--load", "bad", "--state", "none"], b"13;");
+    assert!(!folder.0.join("none").exists());
+    let start = "box: --load: bad: expected an image of 69 blocks, and ";
+    let said = complaint(&out, 2);
+    said.strip_prefix(start).unwrap_or_else(|| panic!("{said}")).to_string()
+}
+
+fn files(folder: &Path) -> Vec<String> {
+    let entries = fs::read_dir(folder).expect("a folder");
+    let mut names: Vec<String> =
+        entries.map(|entry| entry.expect("it").file_name().into_string().expect("UTF-8")).collect();
+    names.sort();
+    names
+}
+
+#[test]
+fn what_is_saved_comes_back() {
+    let folder = Folder::new("images");
+    let out = run(&folder, &["--save", "a", "--state", "before"], BUILD);
+    assert_eq!(said(&out), key_line("a", 1));
+    let out = run(&folder, &["--load", "a", "--state", "after"], b"41 4096 = 0 77;");
+    assert!(out.status.success() && out.stderr.is_empty(), "{out:?}");
+    let read = |name: &str| fs::read(folder.0.join(name)).expect("a file");
+    assert_eq!(read("before/ledger"), read("after/ledger"));
+    // No insecure frame was written, so all memory is as it was.
+    assert_eq!(read("before/memory"), read("after/memory"));
+    assert_eq!(read("a").len(), TOTAL * BLOCK);
+    let mode = folder.0.join("a").metadata().expect("a file").permissions().mode();
+    assert_eq!(mode & 0o777, 0o600);
+    assert_eq!(files(&folder.0), ["a", "after", "before"]);
+}
+
+/// The largest box. How far it is, is said on terminals alone.
+#[test]
+fn many_blocks() {
+    let folder = Folder::new("images-many");
+    let machine = ["--machine", "4096,8,256,0,2"];
+    let out = run(&folder, &[&machine[..], &["--save", "a"]].concat(), b"2 254 255;");
+    assert_eq!(said(&out), "box: a holds the bench's key (image 1, 2181 blocks)\n");
+    let out = run(&folder, &[&machine[..], &["--load", "a"]].concat(), b"13 = 0 254 0;");
+    assert!(out.status.success() && out.stderr.is_empty(), "{out:?}");
+}
+
+/// The image has the key; insecure frames are those of a fresh box.
+#[test]
+fn the_key_comes_and_insecure_frames_do_not() {
+    let folder = Folder::new("images-key");
+    let shared =
+        b"2 0 1; 4 0 2 0; 7 0 4099 5; 3 0 4 0; 8 0; 9 4 0 0 0; 42 4096 77; 41 4096 = 0 77;";
+    let out = run(&folder, &["--key", "9,8,7,6,5,4,3,2", "--save", "a"], shared);
+    assert_eq!(said(&out), key_line("a", 1));
+    let out = run(&folder, &["--load", "a", "--state", "after"], b"41 4096 = 0 5120;");
+    assert!(out.status.success(), "{out:?}");
+    let ledger = fs::read(folder.0.join("after/ledger")).expect("a file");
+    assert_eq!(ledger[4..12], [9, 0, 0, 0, 8, 0, 0, 0]);
+}
+
+#[test]
+fn what_is_no_image_is_refused() {
+    let folder = Folder::new("images-bad");
+    let good = saved(&folder, BUILD);
+    let cut = &good[..68 * BLOCK];
+    assert_eq!(refused(&folder, cut), "it is too short: 34816 of 35328 bytes");
+    assert_eq!(refused(&folder, &good[..35327]), "it is too short: 35327 of 35328 bytes");
+    assert_eq!(refused(&folder, b""), "it is too short: 0 of 35328 bytes");
+    for more in [1, BLOCK, 2 * BLOCK] {
+        let long = [&good[..], &vec![0; more]].concat();
+        assert_eq!(refused(&folder, &long), "it goes on after the last");
+    }
+    let no_image = "block 0 is bad: it is no image, or of a box that --machine has to name";
+    for (byte, what) in [(0, no_image), (512, "block 1 is bad"), (35327, "block 68 is bad")] {
+        let mut flipped = good.clone();
+        flipped[byte] ^= 64;
+        assert_eq!(refused(&folder, &flipped), what);
+    }
+    let out = run(&folder, &["--load", "a", "--machine", "16,6,9,0,2"], b"13;");
+    let said = complaint(&out, 2);
+    assert_eq!(said, format!("box: --load: a: expected an image of 77 blocks, and {no_image}"));
+    // Frames elsewhere: the tables of the image name others.
+    let out = run(&folder, &["--load", "a", "--machine", "16,7,8,0,2"], b"13;");
+    assert!(complaint(&out, 2).ends_with("and acceptance says no to what it holds"), "{out:?}");
+}
+
+#[test]
+fn what_cannot_be_read_is_refused() {
+    let folder = Folder::new("images-unread");
+    for (name, why) in [
+        ("none", "there is no such file"),
+        (".", "it is a folder"),
+        ("/dev/zero", "it is a device"),
+    ] {
+        let said = complaint(&run(&folder, &["--load", name], b"13;"), 2);
+        let expected = "expected a saved image, and it cannot be read";
+        assert_eq!(said, format!("box: --load: {name}: {expected}: {why}"));
+    }
+}
+
+/// One more than the image that is overwritten, or else loaded.
+#[test]
+fn images_are_numbered() {
+    let folder = Folder::new("images-number");
+    let number = |words: &[&str]| {
+        let said = said(&run(&folder, words, b"13;"));
+        let (_, rest) = said.split_once("(image ").expect("a number");
+        rest.split(',').next().expect("it").to_string()
+    };
+    fs::write(folder.0.join("a"), "").expect("written");
+    assert_eq!(number(&["--save", "a"]), "1");
+    assert_eq!(number(&["--save", "a"]), "2");
+    assert_eq!(number(&["--load", "a", "--save", "b"]), "3");
+    assert_eq!(number(&["--load", "b", "--save", "a"]), "3");
+    assert_eq!(number(&["--load", "a", "--save", "a"]), "4");
+    assert_eq!(number(&["--save", "c"]), "1");
+    assert_eq!(files(&folder.0), ["a", "b", "c"]);
+}
+
+/// Nothing but an image, or an empty file, is overwritten.
+#[test]
+fn nothing_else_is_overwritten() {
+    let folder = Folder::new("images-over");
+    let good = saved(&folder, BUILD);
+    fs::write(folder.0.join("notes"), "mine").expect("written");
+    fs::write(folder.0.join("cut"), &good[..5 * BLOCK]).expect("written");
+    fs::write(folder.0.join("zeros"), vec![0; 2 * BLOCK]).expect("written");
+    fs::create_dir(folder.0.join("folder")).expect("made");
+    std::os::unix::fs::symlink("a", folder.0.join("link")).expect("a link");
+    let over = "expected nothing, an empty file or a saved image, found something else";
+    for (name, what) in [
+        ("notes", over),
+        ("cut", over),
+        ("zeros", over),
+        ("folder", over),
+        ("/dev/null", over),
+        ("none/a", "expected a folder to write it in, and none is none"),
+    ] {
+        let out = run(&folder, &["--save", name], b"13;");
+        assert_eq!(complaint(&out, 2), format!("box: --save: {name}: {what}"));
+    }
+    assert_eq!(fs::read(folder.0.join("notes")).expect("a file"), b"mine");
+    assert_eq!(said(&run(&folder, &["--save", "link"], b"13;")), key_line("link", 2));
+    assert!(folder.0.join("link").symlink_metadata().expect("a link").is_symlink());
+    assert_ne!(fs::read(folder.0.join("a")).expect("an image"), good);
+    let out = run(&folder, &["--save", "new"], b"13; x");
+    assert_eq!(out.status.code(), Some(2));
+    assert_eq!(files(&folder.0), ["a", "cut", "folder", "link", "notes", "zeros"]);
+}
+
+/// An image that cannot be written leaves the one that stands there.
+#[test]
+fn what_cannot_be_written() {
+    let folder = Folder::new("images-unwritten");
+    let out = run(&folder, &["--save", "/proc/x"], b"13;");
+    assert!(complaint(&out, 1).starts_with("box: /proc/x cannot be written: "));
+    let good = saved(&folder, BUILD);
+    let place = folder.0.join("a");
+    let fault = || std::io::Error::other("no more room");
+    assert!(play::write::private(&place, |_| Err(fault())).is_err());
+    assert_eq!(fs::read(&place).expect("an image"), good);
+    assert_eq!(files(&folder.0), ["a"]);
+}
