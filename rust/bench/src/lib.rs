@@ -3,6 +3,7 @@
 
 pub mod bound;
 pub mod boxes;
+pub mod images;
 pub mod lists;
 pub mod meter;
 pub mod paid;

@@ -13,6 +13,7 @@ pub fn head(meter: &Meter) -> String {
 folded: plain, but a record is read by a match, its zeros tested all at once
 dearest: the dearest box found, one space with 254 tables, every slot in use
 by clock: the same tables, each slot by chance empty or in use
+image: all blocks of a box, written or read into a spare; acceptance apart
 paper: cycles in the Komodo paper's table 3, on an Arm core of its day;
   of a pair those of AllocSpare or MapData alone
 

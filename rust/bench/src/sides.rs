@@ -11,7 +11,8 @@ pub type Accepts = fn(Machine, &[u32], &[u32]) -> bool;
 /// A program's batch.
 pub type Batch = fn(Machine, &mut [u32], &mut [u32], &[u32], &mut [u32]) -> u32;
 
-fn numbers(m: Machine) -> monitor::Machine {
+/// The numbers of a box, for the proved library.
+pub fn numbers(m: Machine) -> monitor::Machine {
     let Machine { frames, secure, pages, monitor, monitors } = m;
     monitor::Machine { frames, secure, pages, monitor, monitors }
 }

@@ -22,6 +22,17 @@ fn hashes_agree() {
     assert_eq!(mac, sha::mac(&key, &words[8..16], &words[16..]));
 }
 
+/// The published value, and the proved one of every length up to a block's.
+#[test]
+fn checks_agree() {
+    assert_eq!(plain::crc::crc32(b"123456789"), 0xcbf4_3926);
+    let mut rng = Rng::new(43);
+    let bytes: Vec<u8> = (0..512).map(|_| rng.word() as u8).collect();
+    for many in 0..=bytes.len() {
+        assert_eq!(plain::crc::crc32(&bytes[..many]), crc::crc32(&bytes[..many]), "{many} bytes");
+    }
+}
+
 #[test]
 fn calls_agree() {
     let mut rng = Rng::new(42);

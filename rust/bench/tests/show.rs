@@ -3,8 +3,7 @@
 use bench::bound::Bound;
 use bench::meter::Meter;
 use bench::paid::Paid;
-use bench::rows::acceptance;
-use bench::rows::Row;
+use bench::rows::{acceptance, images, Row};
 use bench::show;
 
 const WIDEST: usize = 80;
@@ -27,7 +26,8 @@ fn rows_stand_under_their_heads() {
     assert!(fits(&head) && head.starts_with("nanoseconds; "));
     assert!(names.contains(" ours     plain ratio"), "{names}");
     let end = |line: &str, word: &str| line.find(word).map(|start| start + word.len());
-    for (name, _) in acceptance::boxes() {
+    let of_images = images::boxes().into_iter().flat_map(|(name, _)| images::names(&name));
+    for name in acceptance::boxes().into_iter().map(|(name, _)| name).chain(of_images) {
         let line = show::row(&row(&name));
         assert!(fits(&line), "{line}");
         assert_eq!(end(&line, " 9125735"), end(names, "ours"));

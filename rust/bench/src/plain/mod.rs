@@ -4,6 +4,8 @@
 //!
 //! There are two twins, which differ in how they read a call's record.
 
+pub mod crc;
+pub mod image;
 mod reading;
 pub mod sha;
 

@@ -2,7 +2,9 @@
 
 pub mod acceptance;
 mod calls;
+mod checks;
 mod hashes;
+pub mod images;
 
 use crate::lists::{on_larger_boxes, works, Work};
 use crate::meter::Meter;
@@ -27,8 +29,12 @@ pub struct Row {
 /// calls is handed back.
 pub fn all(meter: &Meter, give: &mut dyn FnMut(Row) -> Result<()>) -> Result<Vec<Paid>> {
     hashes::rows(meter).into_iter().try_for_each(&mut *give)?;
+    give(checks::row(meter))?;
     for (name, lent) in acceptance::boxes() {
         give(acceptance::row(meter, name, &lent))?;
+    }
+    for (name, lent) in images::boxes() {
+        images::rows(meter, &name, &lent).into_iter().try_for_each(&mut *give)?;
     }
     let measured = |work: Work| {
         let (row, paid) = calls::rows(meter, &work);
