@@ -182,6 +182,25 @@ fn nothing_else_is_overwritten() {
     assert_eq!(files(&folder.0), ["a", "cut", "folder", "link", "notes", "zeros"]);
 }
 
+/// An image and a state do not overwrite each other, whatever names them.
+#[test]
+fn an_image_goes_elsewhere_than_a_state() {
+    let folder = Folder::new("images-state");
+    fs::create_dir(folder.0.join("d")).expect("made");
+    std::os::unix::fs::symlink("d", folder.0.join("link")).expect("a link");
+    let both = "expected a file outside of the folder of --state, found one in it";
+    for (state, save) in
+        [("d", "d/memory"), ("d", "link/ledger"), ("link", "./d/memory"), ("x", "x"), ("x", "./x")]
+    {
+        let out = run(&folder, &["--state", state, "--save", save], b"13;");
+        assert_eq!(complaint(&out, 2), format!("box: --save: {save}: {both}"));
+    }
+    assert_eq!(files(&folder.0), ["d", "link"]);
+    assert_eq!(files(&folder.0.join("d")), [""; 0]);
+    let out = run(&folder, &["--state", "d", "--save", "memory"], b"13;");
+    assert_eq!(said(&out), key_line("memory", 1));
+}
+
 /// An image that cannot be written leaves the one that stands there.
 #[test]
 fn what_cannot_be_written() {

@@ -12,6 +12,16 @@ pub fn beside(place: &Path) -> PathBuf {
     name.into()
 }
 
+/// A path without links, also where nothing stands there yet.
+pub(super) fn resolved(path: &Path) -> PathBuf {
+    let new = || {
+        let folder = path.parent().filter(|folder| !folder.as_os_str().is_empty());
+        let folder = folder.unwrap_or(Path::new(".")).canonicalize();
+        Some(folder.ok()?.join(path.file_name()?))
+    };
+    path.canonicalize().ok().or_else(new).unwrap_or(path.into())
+}
+
 /// Whether a file can be written beside this place: it is tried, and nothing
 /// is left.
 pub fn may_stand(place: &Path) -> Result<(), Stop> {

@@ -1,4 +1,4 @@
-use super::beside::may_stand;
+use super::beside::{may_stand, resolved};
 use super::plain::{endless, reason};
 use super::state::folder_of;
 use crate::options::Run;
@@ -37,7 +37,9 @@ impl Images {
             None => Vec::new(),
         };
         let before = match &run.save {
-            Some(file) => may_write(file)?.or_else(|| number_of(&loaded)),
+            Some(file) => apart(file, run.state.as_deref())
+                .and_then(|()| may_write(file))?
+                .or_else(|| number_of(&loaded)),
             None => None,
         };
         Ok(Images { number: before.unwrap_or(0).wrapping_add(1), loaded })
@@ -63,6 +65,18 @@ fn bytes(path: &Path, machine: Machine) -> io::Result<Vec<u8>> {
     let most = (machine.image_blocks() + 1) * BLOCK_BYTES;
     File::open(path)?.take(most as u64).read_to_end(&mut bytes)?;
     Ok(bytes)
+}
+
+/// Whether an image goes elsewhere than a state: to no file of its folder.
+fn apart(file: &OsStr, state: Option<&OsStr>) -> Result<(), Stop> {
+    let Some(folder) = state else { return Ok(()) };
+    match resolved(Path::new(file)).starts_with(resolved(Path::new(folder))) {
+        true => Err(Stop::Asked(format!(
+            "--save: {}: expected a file outside of the folder of --state, found one in it",
+            shown(file)
+        ))),
+        false => Ok(()),
+    }
 }
 
 /// Whether an image may be written to this file: its folder is there, and what
