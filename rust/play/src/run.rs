@@ -9,7 +9,8 @@ use crate::{image, measure, shift, table, write};
 use monitor::{Machine, Monitor};
 use plan::files::{marked, Images};
 use plan::options::{Form, Fresh, Picture, Run};
-use plan::stop::Stop;
+use plan::shown::shown;
+use plan::stop::{say, Stop};
 use plan::text::Text;
 use std::io::Write;
 use std::path::Path;
@@ -48,14 +49,23 @@ pub fn run(
         write!(out, "\n{}", picture(player.bench().ledger(), colour))?;
     }
     out.flush()?;
-    left(asked, images, player.bench())?;
+    left(asked, images, &player)?;
     Ok(player.met())
 }
 
-/// Writes what is asked for of the box after a plan.
-fn left(asked: &Run, images: &Images, bench: &Monitor) -> Result<(), Stop> {
+/// Writes what is asked for of the box after a plan. After answers that are not as
+/// expected no image is saved: one that stands there is worth more.
+fn left(asked: &Run, images: &Images, player: &Player) -> Result<(), Stop> {
+    let bench = player.bench();
     asked.state.as_ref().map_or(Ok(()), |folder| write::state(folder, bench))?;
-    asked.save.as_ref().map_or(Ok(()), |file| image::save(file, images.number, bench))
+    match &asked.save {
+        Some(file) if player.met() => image::save(file, images.number, bench)?,
+        Some(file) => {
+            say(&format!("{} is not saved: an answer is not the expected one", shown(file)));
+        }
+        None => {}
+    }
+    Ok(())
 }
 
 /// Plays the plan and prints what each space measures once it is final, then

@@ -182,6 +182,22 @@ fn nothing_else_is_overwritten() {
     assert_eq!(files(&folder.0), ["a", "cut", "folder", "link", "notes", "zeros"]);
 }
 
+/// After answers that are not as expected nothing is saved, and it is said.
+#[test]
+fn what_is_not_as_expected_is_not_saved() {
+    let folder = Folder::new("images-unmet");
+    let good = saved(&folder, BUILD);
+    for name in ["a", "new"] {
+        let out = run(&folder, &["--load", "a", "--save", name, "--json"], b"13 = 1;");
+        assert_eq!(out.status.code(), Some(1));
+        let unmet = "box: -:1:1: FreePages: expected 1, found 15\n";
+        let unsaved = format!("box: {name} is not saved: an answer is not the expected one\n");
+        assert_eq!(String::from_utf8_lossy(&out.stderr), format!("{unmet}{unsaved}"));
+    }
+    assert_eq!(fs::read(folder.0.join("a")).expect("an image"), good);
+    assert_eq!(files(&folder.0), ["a"]);
+}
+
 /// An image and a state do not overwrite each other, whatever names them.
 #[test]
 fn an_image_goes_elsewhere_than_a_state() {
