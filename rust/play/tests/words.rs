@@ -17,6 +17,8 @@ fn bad_options() {
     let commas = "numbers up to 4294967295 with commas between";
     let five = format!("--machine: expected F,s,n,m,k, five {commas}, found");
     let options = "expected --machine, --key, --json, --ledger, --state, --save or --load, found";
+    let (file, dash) =
+        ("--save: expected a file, found", "a name that starts with - is given as ./-..");
     let cases: &[(&[&str], String)] = &[
         (
             &["walk"],
@@ -61,6 +63,17 @@ fn bad_options() {
         ),
         (&["run", "plan", "--save"], "--save: expected a file, found nothing".into()),
         (&["run", "plan", "--load", ""], "--load: expected a file, found nothing".into()),
+        (&["run", "plan", "--save", "--json"], format!("{file} '--json': {dash}")),
+        (&["run", "--save", "-", "plan"], format!("{file} '-': {dash}")),
+        (&["run", "plan", "--save", "--key=91"], format!("{file} '--key=..': {dash}")),
+        (
+            &["run", "plan", "--load", "--save", "a"],
+            format!("--load: expected a file, found '--save': {dash}"),
+        ),
+        (
+            &["run", "plan", "--state", "-x"],
+            format!("--state: expected a folder, found '-x': {dash}"),
+        ),
         (
             &["run", "plan", "--load", "a", "--load", "a"],
             "--load: expected once, found twice".into(),

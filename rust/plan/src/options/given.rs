@@ -71,10 +71,18 @@ fn is_option(word: &OsStr) -> bool {
     word != "-" && word.as_encoded_bytes().starts_with(b"-")
 }
 
-/// The name that an option takes.
+/// The name that an option takes. One that starts with a dash is rather the next
+/// option, after a name that was forgotten.
 fn named(option: &str, kind: &str, word: Option<&OsStr>) -> Result<OsString, Complaint> {
-    let name = word.filter(|name| !name.is_empty());
-    name.map(OsString::from).ok_or_else(|| format!("{option}: expected a {kind}, found nothing"))
+    let expected = format!("{option}: expected a {kind}, found");
+    match word {
+        Some(name) if name.as_encoded_bytes().starts_with(b"-") => {
+            let hint = "a name that starts with - is given as ./-..";
+            Err(format!("{expected} {}: {hint}", before_value(name)))
+        }
+        Some(name) if !name.is_empty() => Ok(name.into()),
+        _ => Err(format!("{expected} nothing")),
+    }
 }
 
 fn once<T>(option: &str, place: &mut Option<T>, value: T) -> Result<(), Complaint> {
