@@ -198,6 +198,31 @@ fn what_is_not_as_expected_is_not_saved() {
     assert_eq!(files(&folder.0), ["a"]);
 }
 
+/// What killed runs have left is removed: no more than that.
+#[test]
+fn unfinished_images_are_removed() {
+    let folder = Folder::new("images-left");
+    let mut ended = std::process::Command::new("true").spawn().expect("it runs");
+    let (gone, alive) = (ended.id(), std::process::id());
+    ended.wait().expect("it ends");
+    let name = |image: &str, process: u32| format!("{image}.{process}.new");
+    let write = |name: &str| fs::write(folder.0.join(name), "unfinished").expect("written");
+    let mut kept = ["a.new", "a..new", "a.x1.new", "a.+1.new", "ab"].map(String::from).to_vec();
+    kept.extend([name("a", alive), name("b", gone), name("a.b", gone), name("", gone)]);
+    kept.iter().for_each(|name| write(name));
+    for image in ["a", "./a"] {
+        write(&name("a", gone));
+        said(&run(&folder, &["--save", image], b"13;"));
+        assert!(!folder.0.join(name("a", gone)).exists());
+    }
+    // A link is none of its own.
+    std::os::unix::fs::symlink("ab", folder.0.join(name("a", gone))).expect("a link");
+    said(&run(&folder, &["--save", "a"], b"13;"));
+    kept.extend([name("a", gone), "a".into()]);
+    kept.sort();
+    assert_eq!(files(&folder.0), kept);
+}
+
 /// An image and a state do not overwrite each other, whatever names them.
 #[test]
 fn an_image_goes_elsewhere_than_a_state() {

@@ -1,8 +1,12 @@
 //! Files that are written beside their places and then moved there.
 
+use crate::decimal::value;
 use crate::shown::shown;
 use crate::stop::Stop;
+use std::ffi::OsStr;
 use std::fs::{self, OpenOptions};
+use std::os::unix::ffi::OsStrExt;
+use std::os::unix::fs::MetadataExt;
 use std::path::{Path, PathBuf};
 
 /// Beside this place, by a name that is this process's own.
@@ -10,6 +14,29 @@ pub fn beside(place: &Path) -> PathBuf {
     let mut name = place.as_os_str().to_owned();
     name.push(format!(".{}.new", std::process::id()));
     name.into()
+}
+
+/// Whose process wrote this file beside a place of this name.
+fn process_of(place: &OsStr, file: &OsStr) -> Option<u32> {
+    let rest = file.as_bytes().strip_prefix(place.as_bytes())?.strip_prefix(b".")?;
+    value(rest.strip_suffix(b".new")?)
+}
+
+/// Removes what killed runs have left beside this place: plain files of this user's,
+/// by names as above, whose process is gone. What cannot be removed stays.
+pub(super) fn sweep(place: &Path) {
+    let (Some(folder), Some(name)) = (place.parent(), place.file_name()) else { return };
+    let (Ok(own), Ok(entries)) = (fs::metadata("/proc/self"), folder.read_dir()) else { return };
+    for file in entries.flatten() {
+        let Some(process) = process_of(name, &file.file_name()) else { continue };
+        // This process has written none yet: what bears its number is of an earlier one.
+        let gone = process == std::process::id()
+            || Path::new(&format!("/proc/{process}")).try_exists().is_ok_and(|there| !there);
+        // Of a link this is the link itself.
+        if gone && file.metadata().is_ok_and(|it| it.is_file() && it.uid() == own.uid()) {
+            let _ = fs::remove_file(file.path());
+        }
+    }
 }
 
 /// A path without links, also where nothing stands there yet.

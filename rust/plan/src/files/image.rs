@@ -1,4 +1,4 @@
-use super::beside::{may_stand, resolved};
+use super::beside::{may_stand, resolved, sweep};
 use super::plain::{endless, reason};
 use super::state::folder_of;
 use crate::options::Run;
@@ -80,7 +80,8 @@ fn apart(file: &OsStr, state: Option<&OsStr>) -> Result<(), Stop> {
 }
 
 /// Whether an image may be written to this file: its folder is there, and what
-/// stands there already is empty or an image, whose number is given.
+/// stands there already is empty or an image, whose number is given. Unfinished ones
+/// that killed runs have left beside it hold the key, and are removed.
 fn may_write(file: &OsStr) -> Result<Option<u32>, Stop> {
     let complain = |what: String| Stop::Asked(format!("--save: {}: {what}", shown(file)));
     let path = Path::new(file);
@@ -97,6 +98,7 @@ fn may_write(file: &OsStr) -> Result<Option<u32>, Stop> {
             number = number_of(&stands.ok_or_else(else_there)?);
         }
     }
+    sweep(&resolved(path));
     may_stand(&path.canonicalize().unwrap_or(path.into()))?;
     Ok(number)
 }

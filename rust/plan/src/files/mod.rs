@@ -27,8 +27,8 @@ pub struct Looked {
     pub images: Images,
 }
 
-/// Looks at all files, or complains. Nothing is left written. A plan that was
-/// passed on is read from standard input, wherever it stood.
+/// Looks at all files, or complains. Nothing is left written, and what killed runs
+/// left beside an image that is to be saved is removed. A plan that was passed on is read from standard input, wherever it stood.
 pub fn look(asked: &Asked, passed_on: bool) -> Result<Looked, Stop> {
     let mut images = Images::default();
     match asked {
