@@ -132,7 +132,7 @@ fn what_cannot_be_read_is_refused() {
     }
 }
 
-/// One more than the image that is overwritten, or else loaded.
+/// One more than the larger of the images that are overwritten and loaded.
 #[test]
 fn images_are_numbered() {
     let folder = Folder::new("images-number");
@@ -145,10 +145,35 @@ fn images_are_numbered() {
     assert_eq!(number(&["--save", "a"]), "1");
     assert_eq!(number(&["--save", "a"]), "2");
     assert_eq!(number(&["--load", "a", "--save", "b"]), "3");
-    assert_eq!(number(&["--load", "b", "--save", "a"]), "3");
-    assert_eq!(number(&["--load", "a", "--save", "a"]), "4");
+    assert_eq!(number(&["--load", "b", "--save", "a"]), "4");
+    assert_eq!(number(&["--load", "b", "--save", "a"]), "5");
+    assert_eq!(number(&["--load", "a", "--save", "a"]), "6");
     assert_eq!(number(&["--save", "c"]), "1");
     assert_eq!(files(&folder.0), ["a", "b", "c"]);
+}
+
+/// No number follows the last one.
+#[test]
+fn the_last_number() {
+    let folder = Folder::new("images-last");
+    let bench = play::fresh(monitor::Machine::BOX_A, &plan::KEY).expect("a box");
+    for (name, number) in [("last", u32::MAX), ("before", u32::MAX - 1)] {
+        let image: Vec<u8> = bench.image(number).expect("an image").flatten().collect();
+        fs::write(folder.0.join(name), image).expect("written");
+    }
+    let last = "the image overwritten or loaded has the last number, 4294967295";
+    for words in [&["--save", "last"][..], &["--load", "last", "--save", "new"]] {
+        let said = complaint(&run(&folder, words, b"13;"), 2);
+        let file = words.last().expect("a file");
+        assert_eq!(said, format!("box: --save: {file}: {last}, and none is left for the next"));
+    }
+    let out = run(&folder, &["--load", "before", "--save", "before"], b"13;");
+    assert_eq!(self::said(&out), key_line("before", u32::MAX));
+    // What is no image has no number.
+    fs::write(folder.0.join("bad"), [255; BLOCK]).expect("written");
+    let said = complaint(&run(&folder, &["--load", "bad", "--save", "new"], b"13;"), 2);
+    assert!(said.contains("expected an image of 69 blocks, and block 0 is bad"), "{said}");
+    assert_eq!(files(&folder.0), ["bad", "before", "last"]);
 }
 
 /// Nothing but an image, or an empty file, is overwritten.

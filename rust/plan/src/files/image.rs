@@ -24,8 +24,8 @@ pub struct Images {
     /// The bytes of the one that is loaded, up to a block more than its box has;
     /// what they are worth is the library's to say.
     pub loaded: Vec<u8>,
-    /// The number of the one that is saved: one more than that of the image that is
-    /// overwritten, or else of the one that is loaded; 1 where there is neither.
+    /// The number of the one that is saved: one more than the larger of those of the
+    /// images that are overwritten and loaded; 1 where there is neither.
     pub number: u32,
 }
 
@@ -36,13 +36,15 @@ impl Images {
             Some(file) => load(file, run.plan.fresh.machine)?,
             None => Vec::new(),
         };
-        let before = match &run.save {
-            Some(file) => apart(file, run.state.as_deref())
-                .and_then(|()| may_write(file))?
-                .or_else(|| number_of(&loaded)),
-            None => None,
+        let number = match &run.save {
+            Some(file) => {
+                apart(file, run.state.as_deref())?;
+                let before = may_write(file)?.max(number_of(&loaded));
+                next(file, before.unwrap_or(0))?
+            }
+            None => 0,
         };
-        Ok(Images { number: before.unwrap_or(0).wrapping_add(1), loaded })
+        Ok(Images { number, loaded })
     }
 }
 
@@ -109,10 +111,19 @@ fn stands(path: &Path) -> Option<Vec<u8>> {
     file.then(|| bytes(path, LARGEST).ok()).flatten()
 }
 
+/// The number after this one.
+fn next(file: &OsStr, before: u32) -> Result<u32, Complaint> {
+    let last = || {
+        let what = "the image overwritten or loaded has the last number";
+        format!("--save: {}: {what}, {before}, and none is left for the next", shown(file))
+    };
+    before.checked_add(1).ok_or_else(last)
+}
+
 /// Whether these are all the blocks of one image, in order, by what their first
 /// words say. Whether they are good is not asked: they are to be overwritten.
 fn is_image(bytes: &[u8]) -> bool {
-    let (blocks, number) = (bytes.chunks_exact(BLOCK_BYTES), number_of(bytes));
+    let (blocks, number) = (bytes.chunks_exact(BLOCK_BYTES), word(bytes, block::NUMBER));
     let (total, whole) = (blocks.len() as u32, blocks.remainder().is_empty());
     let head =
         |block: &[u8]| [block::NUMBER, block::INDEX, block::TOTAL].map(|place| word(block, place));
@@ -120,9 +131,9 @@ fn is_image(bytes: &[u8]) -> bool {
     whole && (0..).zip(blocks).all(own)
 }
 
-/// The number that the first block of an image gives.
+/// The number of an image; what is none has none.
 fn number_of(bytes: &[u8]) -> Option<u32> {
-    word(bytes, block::NUMBER)
+    is_image(bytes).then(|| word(bytes, block::NUMBER)).flatten()
 }
 
 fn word(bytes: &[u8], place: usize) -> Option<u32> {
