@@ -267,6 +267,24 @@ fn an_image_goes_elsewhere_than_a_state() {
     assert_eq!(said(&out), key_line("memory", 1));
 }
 
+/// An image that may not be read is not overwritten, and it is said. Whoever may read
+/// everything cannot try it.
+#[test]
+fn what_may_not_be_read_is_not_overwritten() {
+    let folder = Folder::new("images-shut");
+    let good = saved(&folder, BUILD);
+    let (file, mode) = (folder.0.join("a"), fs::Permissions::from_mode);
+    fs::set_permissions(&file, mode(0)).expect("shut");
+    if fs::read(&file).is_err() {
+        let said = complaint(&run(&folder, &["--save", "a"], b"13;"), 2);
+        let expected = "expected nothing, an empty file or a saved image";
+        let why = "and it cannot be read: it may not be read";
+        assert_eq!(said, format!("box: --save: a: {expected}, {why}"));
+    }
+    fs::set_permissions(&file, mode(0o600)).expect("open");
+    assert_eq!(fs::read(&file).expect("an image"), good);
+}
+
 /// An image that cannot be written leaves the one that stands there.
 #[test]
 fn what_cannot_be_written() {

@@ -95,9 +95,8 @@ fn may_write(file: &OsStr) -> Result<Option<u32>, Stop> {
         Err(fault) => return Err(Stop::File(shown(file), fault)),
         Ok(_) => {
             let expected = "expected nothing, an empty file or a saved image";
-            let stands = stands(path).filter(|bytes| bytes.is_empty() || is_image(bytes));
-            let else_there = || complain(format!("{expected}, found something else"));
-            number = number_of(&stands.ok_or_else(else_there)?);
+            let stands = stands(path).map_err(|found| complain(format!("{expected}, {found}")))?;
+            number = number_of(&stands);
         }
     }
     sweep(&resolved(path));
@@ -105,10 +104,17 @@ fn may_write(file: &OsStr) -> Result<Option<u32>, Stop> {
     Ok(number)
 }
 
-/// The bytes of a plain file, as far as the largest image goes and a block more.
-fn stands(path: &Path) -> Option<Vec<u8>> {
-    let file = path.metadata().is_ok_and(|about| about.is_file());
-    file.then(|| bytes(path, LARGEST).ok()).flatten()
+/// The bytes of an image or of an empty file; or what is found instead.
+fn stands(path: &Path) -> Result<Vec<u8>, String> {
+    let other = || Err("found something else".into());
+    if !path.metadata().is_ok_and(|about| about.is_file()) {
+        return other();
+    }
+    match bytes(path, LARGEST) {
+        Ok(bytes) if bytes.is_empty() || is_image(&bytes) => Ok(bytes),
+        Ok(_) => other(),
+        Err(fault) => Err(format!("and it cannot be read: {}", reason(&fault))),
+    }
 }
 
 /// The number after this one.
