@@ -70,6 +70,13 @@ enum {
     MONITOR_PROGRESS_WORDS = 4   /* of an image that is being read */
 };
 
+/* The words of the progress of an image that is being read. */
+enum monitor_progress {
+    MONITOR_PROGRESS_ANSWER = 0, /* the answer so far */
+    MONITOR_PROGRESS_CAME = 1,   /* how many blocks came; once one is bad, its place, from 0 */
+    MONITOR_PROGRESS_NUMBER = 2  /* the image's number, once a block came */
+};
+
 /* The box's numbers: which frames there are, and whose. Every frame below frames that is neither secure nor the monitor's is insecure. The
    services take the five one by one, in this order; docs/RULES.md calls them F, s, n, m and k. */
 struct monitor_machine {
@@ -180,7 +187,7 @@ uint32_t monitor_batch(uint32_t frames, uint32_t secure, uint32_t pages, uint32_
 
 /* ---- Saved images: ledger and secure frames in blocks of MONITOR_BLOCK_BYTES, each with its own check ---- */
 
-/* How many blocks an image of this box has; 0 where the numbers break the rules. */
+/* How many blocks an image of this box has; 0 where the numbers break the rules. A number, not a code: 18 blocks are n = 2's. */
 MONITOR_SYSV
 uint32_t monitor_image_blocks(uint32_t frames, uint32_t secure, uint32_t pages, uint32_t monitor, uint32_t monitors);
 
@@ -195,9 +202,11 @@ uint32_t monitor_image_write(uint32_t frames, uint32_t secure, uint32_t pages, u
                              uint8_t *block, size_t block_bytes);
 
 /* Reads the next block into a spare: a memory and a ledger as long as the box's own, which are not in use. The progress is all zeros before
-   the first block, and the service's own from then on. Answers MONITOR_DONE where all is good so far; MONITOR_BAD_BLOCK where progress[1]
-   names the first bad block, from 0, a block that is not MONITOR_BLOCK_BYTES long among them; MONITOR_UNFIT where numbers or lengths of
-   spare or progress break the rules. A bad block leaves the spare as it was, and every later answer is the same. */
+   the first block, and the service's own from then on. Zero it before every reading, and trust a yes only of a reading that began so: a yes
+   of the end changes no word of it. Answers MONITOR_DONE where all is good so far; MONITOR_BAD_BLOCK where MONITOR_PROGRESS_CAME is the
+   place of the first bad block, a block that is not MONITOR_BLOCK_BYTES long among them; MONITOR_NOT_ACCEPTED after an end that answered
+   it; MONITOR_UNFIT where numbers or lengths of spare or progress break the rules. A bad block leaves the spare as it was, and every later
+   answer is the same. */
 MONITOR_SYSV
 uint32_t monitor_image_read(uint32_t frames, uint32_t secure, uint32_t pages, uint32_t monitor, uint32_t monitors,
                             uint32_t *memory, size_t memory_words,

@@ -16,7 +16,7 @@ static inline bool monitor_is_among(uint32_t first, uint32_t count, uint32_t num
     return number >= first && number - first < count;
 }
 
-/* Whether the numbers keep the rules of a box. Advice to the host: boot and batch ask it again themselves. */
+/* Whether the numbers keep the rules of a box. Advice to the host: the services ask it again. */
 static inline bool monitor_fits(const struct monitor_machine *machine)
 {
     uint64_t secure_end = (uint64_t)machine->secure + machine->pages;

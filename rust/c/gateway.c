@@ -261,10 +261,10 @@ static void power_fails(void)
     memset(memory, 0xAA, sizeof memory);
     memset(ledger, 0xBB, sizeof ledger);
     flash[40][99] ^= 8;
-    must(restore(progress) == MONITOR_BAD_BLOCK && progress[1] == 40, "a changed block is named");
+    must(restore(progress) == MONITOR_BAD_BLOCK && progress[MONITOR_PROGRESS_CAME] == 40, "a changed block is named");
     flash[40][99] ^= 8;
-    must(restore(progress) == MONITOR_DONE && progress[2] == 1, "the image is whole and accepted");
-    printf("gateway: power failed; image %u of %d blocks is restored\n", (unsigned)progress[2], (int)BLOCKS);
+    must(restore(progress) == MONITOR_DONE && progress[MONITOR_PROGRESS_NUMBER] == 1, "the image is whole and accepted");
+    printf("gateway: power failed; image %u of %d blocks is restored\n", (unsigned)progress[MONITOR_PROGRESS_NUMBER], (int)BLOCKS);
 }
 
 /* What the system may not do at all. */

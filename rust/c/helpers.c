@@ -95,7 +95,7 @@ static void images(void)
     expect(monitor_image_end_on(&box, other, 2048, kept, 64, progress, MONITOR_PROGRESS_WORDS) == MONITOR_DONE, "a whole image");
     expect(memcmp(ledger, kept, sizeof kept) == 0 && memcmp(memory + 1024, other + 1024, 4096) == 0, "the same words");
     expect(monitor_image_read_on(&box, other, 2048, kept, 64, progress, MONITOR_PROGRESS_WORDS, odd, MONITOR_BLOCK_BYTES)
-           == MONITOR_BAD_BLOCK && progress[1] == 9, "one block too many");
+           == MONITOR_BAD_BLOCK && progress[MONITOR_PROGRESS_CAME] == 9, "one block too many");
 }
 
 static void texts(void)

@@ -97,6 +97,9 @@ fn lengths() {
         ("BLOCK_BYTES", layout::BLOCK_BYTES),
         ("PAYLOAD_WORDS", layout::PAYLOAD_WORDS),
         ("PROGRESS_WORDS", layout::PROGRESS_WORDS),
+        ("PROGRESS_ANSWER", layout::progress::ANSWER),
+        ("PROGRESS_CAME", layout::progress::CAME),
+        ("PROGRESS_NUMBER", layout::progress::NUMBER),
     ] {
         assert!(defines(name, number), "{name}");
     }
@@ -109,7 +112,7 @@ fn no_more_names() {
         |start: &str| HEADER.lines().filter(|line| line.trim_start().starts_with(start)).count();
     let names = HEADER.lines().filter(|line| line.trim_start().starts_with("MONITOR_"));
     let texts = Call::NUMBERS.len() + Refusal::ALL.len() + 6;
-    assert_eq!(names.filter(|line| line.contains(" = ")).count(), texts + 11 + 3);
+    assert_eq!(names.filter(|line| line.contains(" = ")).count(), texts + 14 + 3);
     assert_eq!(count("case "), texts);
     assert_eq!(count("#define MONITOR_VERSION"), 4);
 }
