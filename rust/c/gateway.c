@@ -63,31 +63,52 @@ static void power_up(void)
 
 enum { IMAGE_WORDS = LEDGER + PAGES * MONITOR_FRAME_WORDS, BLOCKS = (IMAGE_WORDS + MONITOR_PAYLOAD_WORDS - 1) / MONITOR_PAYLOAD_WORDS };
 
-/* On the chip, and kept from everybody as the ledger is: the image has the key and every secure page in it. */
-static uint8_t flash[BLOCKS][MONITOR_BLOCK_BYTES];
+/* On the chip, and kept from everybody as the ledger is: an image has the key and every secure page in it. Two slots take turns, so that
+   one is whole while the other is written. The count beside them is raised before the first block: no number is ever used twice, and a slot
+   that was left half written holds blocks of two numbers. */
+enum { SLOTS = 2 };
+static uint8_t flash[SLOTS][BLOCKS][MONITOR_BLOCK_BYTES];
+static uint32_t counted;
+
+/* The slot of the newest whole image. Restoring finds it again. */
+static uint32_t newest;
 
 /* All blocks are of one state: between the first and the last no call is let in. */
-static void save(uint32_t number)
+static void save(void)
 {
-    uint32_t index;
+    uint32_t index, slot = (newest + 1) % SLOTS;
     must(monitor_image_blocks_on(&box) == BLOCKS, "the flash has room for an image");
+    counted++;
     for (index = 0; index < BLOCKS; index++)
-        must(monitor_image_write_on(&box, memory, MEMORY, ledger, LEDGER, number, index, flash[index], sizeof flash[index]) == MONITOR_DONE,
-             "a block is written");
+        must(monitor_image_write_on(&box, memory, MEMORY, ledger, LEDGER, counted, index, flash[slot][index], MONITOR_BLOCK_BYTES)
+             == MONITOR_DONE, "a block is written");
+    newest = slot;
 }
 
 /* Just after power comes up memory and ledger hold nothing, and are the spare themselves: what is refused is booted over. A host that is at
    work has a second memory and ledger for this. */
-static uint32_t restore(uint32_t progress[MONITOR_PROGRESS_WORDS])
+static uint32_t read_slot(uint32_t slot, uint32_t progress[MONITOR_PROGRESS_WORDS])
 {
     uint32_t index;
     memset(progress, 0, MONITOR_PROGRESS_WORDS * sizeof *progress);
     for (index = 0; index < BLOCKS; index++)
-        monitor_image_read_on(&box, memory, MEMORY, ledger, LEDGER, progress, MONITOR_PROGRESS_WORDS, flash[index], sizeof flash[index]);
+        monitor_image_read_on(&box, memory, MEMORY, ledger, LEDGER, progress, MONITOR_PROGRESS_WORDS,
+                              flash[slot][index], MONITOR_BLOCK_BYTES);
     return monitor_image_end_on(&box, memory, MEMORY, ledger, LEDGER, progress, MONITOR_PROGRESS_WORDS);
 }
 
-/* The key and every secure page are gone from what is lent, then from the lists and the image. On real hardware the monitor's stack and the
+/* The newest whole image: both slots are read, then that one again. Numbers start from 1. */
+static uint32_t restore(uint32_t progress[MONITOR_PROGRESS_WORDS])
+{
+    uint32_t slot, number[SLOTS] = {0, 0};
+    for (slot = 0; slot < SLOTS; slot++)
+        if (read_slot(slot, progress) == MONITOR_DONE)
+            number[slot] = progress[MONITOR_PROGRESS_NUMBER];
+    newest = number[1] > number[0];
+    return read_slot(newest, progress);
+}
+
+/* The key and every secure page are gone from what is lent, then from the lists and the images. On real hardware the monitor's stack and the
    vector registers are wiped here too: a service leaves words of both there. */
 static void power_down(void)
 {
@@ -252,19 +273,23 @@ static void asks(const struct row *row)
     must(mine[0] == row->code && mine[1] == row->value, "the answer expected");
 }
 
-/* Power fails, and all memory with it. One bit of the flash is lost as well: the block is named, and the image refused. Then it is whole
-   again, and the box comes back as it was saved, a suspended thread too. */
+/* Power fails in the middle of a save, and all memory with it: from a block on the slot holds what was there before. That block is named,
+   and the image refused. The one before it is whole, and the box comes back as it was saved, a suspended thread too. */
 static void power_fails(void)
 {
+    enum { WRITTEN = 40 };
     uint32_t progress[MONITOR_PROGRESS_WORDS];
-    save(1);
+    save();
+    save();
+    memset(flash[newest][WRITTEN], 0xFF, (BLOCKS - WRITTEN) * sizeof flash[newest][WRITTEN]);
     memset(memory, 0xAA, sizeof memory);
     memset(ledger, 0xBB, sizeof ledger);
-    flash[40][99] ^= 8;
-    must(restore(progress) == MONITOR_BAD_BLOCK && progress[MONITOR_PROGRESS_CAME] == 40, "a changed block is named");
-    flash[40][99] ^= 8;
-    must(restore(progress) == MONITOR_DONE && progress[MONITOR_PROGRESS_NUMBER] == 1, "the image is whole and accepted");
-    printf("gateway: power failed; image %u of %d blocks is restored\n", (unsigned)progress[MONITOR_PROGRESS_NUMBER], (int)BLOCKS);
+    must(read_slot(newest, progress) == MONITOR_BAD_BLOCK && progress[MONITOR_PROGRESS_CAME] == WRITTEN, "the first bad block is named");
+    must(restore(progress) == MONITOR_DONE && progress[MONITOR_PROGRESS_NUMBER] == 1, "the image before it is whole and accepted");
+    printf("gateway: power failed in the middle of image %u; image %u of %d blocks is restored\n", (unsigned)counted,
+           (unsigned)progress[MONITOR_PROGRESS_NUMBER], (int)BLOCKS);
+    save();
+    must(restore(progress) == MONITOR_DONE && progress[MONITOR_PROGRESS_NUMBER] == 3, "the newest whole image is taken");
 }
 
 /* What the system may not do at all. */
