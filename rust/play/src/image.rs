@@ -33,7 +33,10 @@ pub fn restored(file: &OsStr, machine: Machine, bytes: &[u8]) -> Result<Monitor,
 fn in_words(bad: BadImage, machine: Machine, bytes: usize) -> String {
     let total = machine.image_blocks();
     match bad {
-        BadImage::NotAccepted => "acceptance says no to what it holds".into(),
+        BadImage::NotAccepted => {
+            "acceptance says no: it holds no state of this box, or --machine has to name another"
+                .into()
+        }
         BadImage::Block(place) if place as usize == total => "it goes on after the last".into(),
         BadImage::Block(place) if place as usize == bytes / BLOCK_BYTES => {
             format!("it is too short: {bytes} of {} bytes", total * BLOCK_BYTES)

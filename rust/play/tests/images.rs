@@ -115,7 +115,9 @@ fn what_is_no_image_is_refused() {
     assert_eq!(said, format!("box: --load: a: expected an image of 77 blocks, and {no_image}"));
     // Frames elsewhere: the tables of the image name others.
     let out = run(&folder, &["--load", "a", "--machine", "16,7,8,0,2"], b"13;");
-    assert!(complaint(&out, 2).ends_with("and acceptance says no to what it holds"), "{out:?}");
+    let said = complaint(&out, 2);
+    let no = "acceptance says no: it holds no state of this box, or --machine has to name another";
+    assert_eq!(said, format!("box: --load: a: expected an image of 69 blocks, and {no}"));
 }
 
 #[test]
