@@ -28,8 +28,9 @@ impl<M: AsRef<[u32]>, L: AsRef<[u32]>> Monitor<M, L> {
 }
 
 /// The blocks of a saved image, one by one. Printed for debugging it shows no word
-/// of them.
+/// of them; a [`Block`] itself does.
 #[derive(Clone)]
+#[must_use = "blocks are written as they are asked for"]
 pub struct Blocks<'a> {
     machine: Machine,
     memory: &'a [u32],
@@ -78,6 +79,10 @@ impl fmt::Debug for Blocks<'_> {
 /// box's own, owned or borrowed, which are not in use. Printed for debugging it
 /// shows no word of them.
 ///
+/// Frames that are not secure stay as they were lent. A spare that is refused holds
+/// the part of the image that came, mostly with the key in it, and nothing wipes it:
+/// that is the host's to do.
+///
 /// Restoring rewinds history. An older image is as good as the newest: which one is
 /// taken up again is the host's to decide.
 ///
@@ -110,6 +115,7 @@ impl fmt::Debug for Blocks<'_> {
 /// # }
 /// ```
 #[derive(Clone)]
+#[must_use = "nothing is restored before the end says so"]
 pub struct Restore<
     #[cfg(feature = "alloc")] M = alloc::vec::Vec<u32>,
     #[cfg(feature = "alloc")] L = alloc::vec::Vec<u32>,

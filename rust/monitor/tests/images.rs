@@ -94,6 +94,7 @@ fn as_many_blocks_as_are_said() {
         assert_eq!((blocks.next(), blocks.len()), (None, 0));
     }
     assert_eq!(words::image_blocks(Machine { monitors: 0, ..A }), 0);
+    assert_eq!(Machine { monitors: 0, ..A }.image_blocks(), 0);
 }
 
 /// Ledger and secure frames come back, a running thread too; the other frames of

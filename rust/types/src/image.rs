@@ -2,7 +2,8 @@ use crate::code::{BAD_BLOCK, NOT_ACCEPTED};
 use crate::layout::{progress, BLOCK_BYTES, PROGRESS_WORDS};
 use core::fmt;
 
-/// A block of a saved image. Those of an image hold the key and every secure page.
+/// A block of a saved image. Those of an image hold the key and every secure page:
+/// do not print one, as any list of bytes it shows all of them.
 pub type Block = [u8; BLOCK_BYTES];
 
 /// Why an image is refused.

@@ -105,10 +105,13 @@ impl Machine {
         (self.pages as usize).saturating_mul(RECORD_WORDS).saturating_add(HEADER_WORDS)
     }
 
-    /// The blocks of an image of this machine: its ledger, then its secure frames.
-    /// For a host that sets room aside; `words::image_blocks` of `monitor` is the
-    /// library's own word.
+    /// The blocks of an image of this machine: its ledger, then its secure frames; 0
+    /// where the numbers do not fit. For a host that sets room aside;
+    /// `words::image_blocks` of `monitor` is the library's own word.
     pub const fn image_blocks(&self) -> usize {
+        if !self.fits() {
+            return 0;
+        }
         let secure = (self.pages as usize).saturating_mul(FRAME_WORDS);
         self.ledger_words().saturating_add(secure).div_ceil(PAYLOAD_WORDS)
     }
