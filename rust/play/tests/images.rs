@@ -233,7 +233,11 @@ fn unfinished_images_are_removed() {
     let (gone, alive) = (ended.id(), std::process::id());
     ended.wait().expect("it ends");
     let name = |image: &str, process: u32| format!("{image}.{process}.new");
-    let write = |name: &str| fs::write(folder.0.join(name), "unfinished").expect("written");
+    let write = |name: &str| {
+        fs::write(folder.0.join(name), "unfinished").expect("written");
+        let owners = fs::Permissions::from_mode(0o600);
+        fs::set_permissions(folder.0.join(name), owners).expect("the owner's");
+    };
     let mut kept = ["a.new", "a..new", "a.x1.new", "a.+1.new", "ab"].map(String::from).to_vec();
     kept.extend([name("a", alive), name("b", gone), name("a.b", gone), name("", gone)]);
     kept.iter().for_each(|name| write(name));
@@ -242,7 +246,11 @@ fn unfinished_images_are_removed() {
         said(&run(&folder, &["--save", image], b"13;"));
         assert!(!folder.0.join(name("a", gone)).exists());
     }
-    // A link is none of its own.
+    // What others may read is no part of an image, and a link is none.
+    let read = name("a", 0);
+    write(&read);
+    fs::set_permissions(folder.0.join(&read), fs::Permissions::from_mode(0o644)).expect("read");
+    kept.push(read);
     std::os::unix::fs::symlink("ab", folder.0.join(name("a", gone))).expect("a link");
     said(&run(&folder, &["--save", "a"], b"13;"));
     kept.extend([name("a", gone), "a".into()]);

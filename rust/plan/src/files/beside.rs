@@ -23,7 +23,8 @@ fn process_of(place: &OsStr, file: &OsStr) -> Option<u32> {
 }
 
 /// Removes what killed runs have left beside this place: plain files of this user's,
-/// by names as above, whose process is gone. What cannot be removed stays.
+/// by names as above, whose process is gone; empty, or for their owner alone, as an
+/// image is written. What cannot be removed stays.
 pub(super) fn sweep(place: &Path) {
     let (Some(folder), Some(name)) = (place.parent(), place.file_name()) else { return };
     let (Ok(own), Ok(entries)) = (fs::metadata("/proc/self"), folder.read_dir()) else { return };
@@ -32,8 +33,12 @@ pub(super) fn sweep(place: &Path) {
         // This process has written none yet: what bears its number is of an earlier one.
         let gone = process == std::process::id()
             || Path::new(&format!("/proc/{process}")).try_exists().is_ok_and(|there| !there);
+        let left = |it: fs::Metadata| {
+            let private = it.len() == 0 || it.mode() & 0o077 == 0;
+            it.is_file() && it.uid() == own.uid() && private
+        };
         // Of a link this is the link itself.
-        if gone && file.metadata().is_ok_and(|it| it.is_file() && it.uid() == own.uid()) {
+        if gone && file.metadata().is_ok_and(left) {
             let _ = fs::remove_file(file.path());
         }
     }

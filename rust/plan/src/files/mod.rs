@@ -28,7 +28,8 @@ pub struct Looked {
 }
 
 /// Looks at all files, or complains. Nothing is left written, and what killed runs
-/// left beside an image that is to be saved is removed. A plan that was passed on is read from standard input, wherever it stood.
+/// left beside an image that is to be saved is removed. A plan that was passed on is
+/// read from standard input, wherever it stood.
 pub fn look(asked: &Asked, passed_on: bool) -> Result<Looked, Stop> {
     let mut images = Images::default();
     match asked {
