@@ -19,7 +19,7 @@ use Rattle.machine.specs.declared.Machine.{Machine}
 use Rattle.machine.specs.Machine.{Fits, Lent}
 use Rattle.image.specs.Image.{ledgerWords, secureWords, imageWords, total, totalWord, imageOf, payload, body, sealed, blockOf}
 use Rattle.image.specs.Reader.{Good, payloadOf}
-use Rattle.image.proofs.Inside.{total-fits}
+use Rattle.image.proofs.Inside.{total-fits, total-word-fits}
 use Rattle.image.proofs.Payload.{length-payload}
 use Rattle.image.proofs.Placed.{length-imageOf}
 
@@ -113,13 +113,12 @@ module _ (b : Machine) (M L : List ℕ) (number j : ℕ) where
 -- it is good as block j, where its number is the one before, or j is 0
 pub good-of-block : {b : Machine} {M L : List ℕ} (number j before : ℕ) → Lent b M L → number < 2 ^ 32 → j < total b
     → ((j ≡ 0 → ⊥) → number ≡ before) → Good b j before (blockOf b M L number j)
-unfolding totalWord
 good-of-block {b} {M} {L} number j before l n t same =
     record {
       whole = length-block b M L number j;
       due = t;
       index = block-word b M L number j 1 (omega arith) ∙ mod-eq-of-lt (omega (arith, total-fits b (l .fits)));
-      totals = block-word b M L number j 2 (omega arith) ∙ mod-eq-of-lt (total-fits b (l .fits));
+      totals = block-word b M L number j 2 (omega arith) ∙ mod-eq-of-lt (total-word-fits b (l .fits));
       one-number = λ z. block-number b M L number j n ∙ same z;
       fill = λ i il p.
           block-payload b M L number j i il

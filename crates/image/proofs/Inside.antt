@@ -7,11 +7,11 @@ use lib.ListN.{length}
 use Rattle.words.specs.Words.{wordBits}
 use Rattle.machine.specs.declared.Machine.{Machine}
 use Rattle.machine.specs.Machine.{frameWords, Fits, Lent}
-use Rattle.image.specs.Image.{ledgerWords, secureWords, imageWords, payloadWords, total}
+use Rattle.image.specs.Image.{ledgerWords, secureWords, imageWords, payloadWords, total, totalWord}
 use Rattle.image.specs.Runs.{runsOf}
 use Rattle.image.specs.declared.runs.Runs.{Runs}
 
--- the total: it holds the image, one block less does not, and it is a word
+-- the total: it holds the image, one block less does not; on the largest box it is 8,722, so that it and word 2 are words
 pub total-holds : (b : Machine) → imageWords b ≤ payloadWords * total b
 unfolding total
 total-holds b = omega arith
@@ -20,9 +20,16 @@ pub total-least : (b : Machine) → payloadWords * total b < imageWords b + payl
 unfolding total
 total-least b = omega arith
 
-pub total-fits : (b : Machine) → Fits b → total b < 2 ^ wordBits
+pub total-most : (b : Machine) → Fits b → total b ≤ 8722
 unfolding total
-total-fits b fits = omega (arith, fits .pages-high)
+total-most b fits = omega (arith, fits .pages-high)
+
+pub total-fits : (b : Machine) → Fits b → total b < 2 ^ wordBits
+total-fits b fits = omega (arith, total-most b fits)
+
+pub total-word-fits : (b : Machine) → Fits b → totalWord b < 2 ^ wordBits
+unfolding totalWord
+total-word-fits b fits = omega (arith, total-most b fits)
 
 -- each block has words of the image
 pub begins : (b : Machine) (j : ℕ) → j < total b → payloadWords * j < imageWords b

@@ -53,9 +53,12 @@ bodyBytes = wordBytes * checkAt
 unfoldable pub total : Machine → ℕ
 total b = (imageWords b + (payloadWords - 1)) / payloadWords
 
--- what word 2 of a block says of it
+-- #109: "an image's word 2 becomes the block total + 65,536, so that old images are refused"
+abbrev pub totalFrom : ℕ
+totalFrom = 65536
+
 unfoldable pub totalWord : Machine → ℕ
-totalWord b = total b
+totalWord b = total b + totalFrom
 
 -- the payload of block j, "zero-filled at the end"
 unfoldable pub payload : List ℕ → ℕ → List ℕ

@@ -12,6 +12,9 @@ ghost use Rattle.image.specs.Runs.{runsOf};
 
 pub const PAYLOAD_WORDS: usize = 124;
 
+// Word 2 of a block is the total and this, more than any total that an older image says there.
+const TOTAL_FROM: u32 = 65536;
+
 // Of a payload: the ledger's words, `ledger` from word `from` on; then those of the secure frames, `frames` from word `first` of them on.
 pub struct Runs {
     pub from: usize,
@@ -48,7 +51,7 @@ pub fn total_word(b: Machine) -> u32
     requires { ⌜ Fits b ⌝ }
     ensures { λ r. ⌜ r ≡ totalWord b ⌝ }
 {
-    total(b)
+    total(b) + TOTAL_FROM
 }
 
 fn lesser(x: usize, y: usize) -> usize

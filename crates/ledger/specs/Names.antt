@@ -2,7 +2,7 @@
 -- place is machine's.) Assumes nothing.
 use Prim.Native.Nat.{ℕ}
 
--- "Header: word 0 the running thread's page + 1, or 0; 1-8 the key; 9-16 the free map ..; 17-31 zero."
+-- "Header: word 0 the running thread's page + 1, or 0; 1-8 the key"
 abbrev pub runningWord : ℕ
 runningWord = 0
 

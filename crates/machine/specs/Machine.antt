@@ -1,5 +1,5 @@
--- Document 01, "The box and what is lent": the machine numbers, and which frames are insecure. F, s, n, m, k are the fields frames, secure,
--- pages, monitor, monitors. Assumes nothing.
+-- Document 01, "The box and what is lent", with the sizes of request #109: the machine numbers, and which frames are insecure. F, s, n, m, k are
+-- the fields frames, secure, pages, monitor, monitors. Assumes nothing.
 use Prim.Native.Nat.{ℕ, _+_, _*_, _≤_, _<_}
 use mathlib.Core.Path.{_≡_}
 use mathlib.Core.List.{List}
@@ -14,27 +14,27 @@ use Rattle.machine.specs.declared.Machine.{Machine}
 abbrev pub machineOf : ℕ → ℕ → ℕ → ℕ → ℕ → Machine
 machineOf F s n m k = record { frames = F; secure = s; pages = n; monitor = m; monitors = k }
 
--- the most frames, and the most secure pages
+-- #109: "n rises to 1,024 and F to 16,384"
 abbrev pub mostFrames : ℕ
-mostFrames = 4096
+mostFrames = 16384
 
 abbrev pub mostPages : ℕ
-mostPages = 256
+mostPages = 1024
 
--- the words of a frame and of the ledger's header; the header's word at which the free map starts, and the map's words
+-- the words of a frame; #109: "The header grows to 64 words: free map in words 9-40, zeros after"
 abbrev pub frameWords : ℕ
 frameWords = 1024
 
 abbrev pub headerWords : ℕ
-headerWords = 32
+headerWords = 64
 
 abbrev pub mapStart : ℕ
 mapStart = 9
 
 abbrev pub mapWords : ℕ
-mapWords = 8
+mapWords = 32
 
--- "F frames .. (1 to 4,096); secure frames s to s+n-1 (n 1 to 256); monitor frames m to m+k-1 (k at least 1). Both ranges lie below F and share no frame."
+-- "F frames ..; secure frames s to s+n-1 ..; monitor frames m to m+k-1 (k at least 1). Both ranges lie below F and share no frame."
 pub record Fits (b : Machine) : Type 0 where
   pub frames-low : 1 ≤ b .frames
   pub frames-high : b .frames ≤ mostFrames
@@ -58,7 +58,7 @@ among a c f = leb a f && ltb f (a + c)
 unfoldable pub insecure : Machine → ℕ → Bool
 insecure b f = ltb f (b .frames) && (not (among (b .secure) (b .pages) f) && not (among (b .monitor) (b .monitors) f))
 
--- "Lent: the memory (1,024F words) and the ledger (32+32n words)."
+-- "Lent: the memory (1,024F words) and the ledger"; #109: "ledger 64+32n words"
 pub record Lent (b : Machine) (M L : List ℕ) : Type 0 where
   pub fits : Fits b
   pub memory : length M ≡ frameWords * b .frames

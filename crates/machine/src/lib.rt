@@ -14,18 +14,18 @@ pub struct Machine {
     pub monitors: u32,
 }
 
-pub const MOST_FRAMES: u32 = 4096;
+pub const MOST_FRAMES: u32 = 16384;
 
-pub const MOST_PAGES: u32 = 256;
+pub const MOST_PAGES: u32 = 1024;
 
 pub const FRAME_WORDS: usize = 1024;
 
-pub const HEADER_WORDS: usize = 32;
+pub const HEADER_WORDS: usize = 64;
 
 // The header's word at which the free map starts, the map's words, and the word after them.
 pub const MAP_START: usize = 9;
 
-pub const MAP_WORDS: usize = 8;
+pub const MAP_WORDS: usize = 32;
 
 pub const MAP_END: usize = MAP_START + MAP_WORDS;
 

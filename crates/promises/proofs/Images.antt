@@ -26,7 +26,7 @@ use Rattle.image.specs.Service.{BlocksCounted, BlockWritten, BlockRead, BlockRe
 use Rattle.words.proofs.Endian.{word-drop}
 use Rattle.image.proofs.Placed.{length-imageOf, image-ledger}
 use Rattle.image.proofs.Spare.{image-frame, filled-others}
-use Rattle.image.proofs.Inside.{total-holds, total-least, total-fits}
+use Rattle.image.proofs.Inside.{total-holds, total-least, total-most, total-fits, total-word-fits}
 use Rattle.image.proofs.Good.{length-block, small-block, block-word, block-number, block-payload, block-check}
 use Rattle.promises.specs.Terms.{OfSecure}
 use Rattle.promises.specs.Settled.{Given}
@@ -137,7 +137,7 @@ images-eighteen-exactly-when =
     no-box b r (BlocksCounted.ill-fitting _ e) n = e
 
     box : (b : Machine) (r : ℕ) → BlocksCounted b r → Fits b
-        → (32 + 32 * b .pages + 1024 * b .pages ≤ 124 * r) × (124 * r < 32 + 32 * b .pages + 1024 * b .pages + 124)
+        → (64 + 32 * b .pages + 1024 * b .pages ≤ 124 * r) × (124 * r < 64 + 32 * b .pages + 1024 * b .pages + 124)
     box b r x f = (omega (arith, counts x f, total-holds b), omega (arith, counts x f, total-least b))
 
     write-done : (b : Machine) (M L : List ℕ) (number j : ℕ) (B : List ℕ) (r T : ℕ) (B' : List ℕ)
@@ -275,8 +275,8 @@ blocks-are-laid-down b M L number j B B' (BlockWritten.done f e o) nl small = rw
     l : Lent b M L
     l = f .lent
 
-    total-is : wordAt (blockOf b M L number j) 2 ≡ total b
-    total-is = block-word b M L number j 2 (omega arith) ∙ mod-eq-of-lt (total-fits b (l .fits))
+    total-is : wordAt (blockOf b M L number j) 2 ≡ total b + 65536
+    total-is = block-word b M L number j 2 (omega arith) ∙ mod-eq-of-lt (total-word-fits b (l .fits))
 
     word : (i : ℕ) → i < 124 → wordAt (blockOf b M L number j) (3 + i) ≡ getD (imageOf b M L) (124 * j + i) 0
     word i il = block-payload b M L number j i il ∙ mod-eq-of-lt (small (124 * j + i))
@@ -288,7 +288,10 @@ blocks-are-laid-down b M L number j B B' (BlockWritten.done f e o) nl small = rw
           bytes = small-block b M L number j;
           numbered = block-number b M L number j nl;
           index = block-word b M L number j 1 (omega arith) ∙ mod-eq-of-lt (omega (arith, total-fits b (l .fits), f .index));
-          total = (omega (arith, total-is, total-holds b), omega (arith, total-is, total-least b));
+          blocks = total b;
+          total = total-is;
+          enough = total-holds b;
+          no-more = total-least b;
           ledger = λ i il h. word i il ∙ image-ledger b M L l (124 * j + i) h;
           frames = λ i p k il pl kl e.
               word i il

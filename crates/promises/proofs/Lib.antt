@@ -22,3 +22,4 @@ pub mod Demands
 pub mod Cheats
 pub mod Images
 pub mod Restored
+pub mod Older

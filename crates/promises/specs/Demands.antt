@@ -87,7 +87,7 @@ module _ (any : Any) where
   unfoldable pub ledgerOf : ℕ → List ℕ
   ledgerOf s =
       records
-      ((0 ∷ listBelow keyWords (any .key) ++ (192 ∷ [])) ∷ (space ∷ 0 ∷ 1 ∷ s ∷ 5 ∷ 66 ∷ listBelow 8 (any .hash)) ∷ (firstLevel ∷ 0 ∷ []) ∷
+      ((0 ∷ listBelow keyWords (any .key) ++ (192 ∷ [])) ∷ [] ∷ (space ∷ 0 ∷ 1 ∷ s ∷ 5 ∷ 66 ∷ listBelow 8 (any .hash)) ∷ (firstLevel ∷ 0 ∷ []) ∷
       (secondLevel ∷ 0 ∷ 0 ∷ []) ∷ (dataPage ∷ 0 ∷ 4099 ∷ []) ∷ (thread ∷ 0 ∷ 4096 ∷ []) ∷ (spare ∷ 0 ∷ []) ∷ [] ∷ [] ∷ [])
 
   -- page p is frame 6 + p. Slot 0 of the first-level page (frame 7) names table 2. Of the table (frame 8), slot 1 names the data page (frame 9)
@@ -122,7 +122,7 @@ module _ (any : Any) where
   unfoldable pub ledgerOfTwo : ℕ → List ℕ
   ledgerOfTwo s =
       records
-      ((0 ∷ listBelow keyWords (any .key) ++ (128 ∷ [])) ∷ (space ∷ 0 ∷ 1 ∷ s ∷ 2 ∷ 0 ∷ listBelow 8 (any .hash)) ∷ (firstLevel ∷ 0 ∷ []) ∷
+      ((0 ∷ listBelow keyWords (any .key) ++ (128 ∷ [])) ∷ [] ∷ (space ∷ 0 ∷ 1 ∷ s ∷ 2 ∷ 0 ∷ listBelow 8 (any .hash)) ∷ (firstLevel ∷ 0 ∷ []) ∷
       (secondLevel ∷ 0 ∷ 0 ∷ []) ∷ (space ∷ 3 ∷ 4 ∷ s ∷ 3 ∷ 65 ∷ listBelow 8 (any .hash)) ∷ (firstLevel ∷ 3 ∷ []) ∷ (secondLevel ∷ 3 ∷ 0 ∷ []) ∷
       (dataPage ∷ 3 ∷ 4099 ∷ []) ∷ [] ∷ [])
 
@@ -140,7 +140,7 @@ module _ (any : Any) where
   emptyA =
       record {
         mem = replicate (16 * frameWords) 0;
-        led = records ((0 ∷ listBelow keyWords (any .key) ++ (255 ∷ [])) ∷ [] ∷ [] ∷ [] ∷ [] ∷ [] ∷ [] ∷ [] ∷ [] ∷ []);
+        led = records ((0 ∷ listBelow keyWords (any .key) ++ (255 ∷ [])) ∷ [] ∷ [] ∷ [] ∷ [] ∷ [] ∷ [] ∷ [] ∷ [] ∷ [] ∷ []);
       }
 
   -- ---- what is lent; a machine by its numbers F, s, n, m, k
@@ -152,20 +152,20 @@ module _ (any : Any) where
     pub apart : NoOn (machineOf 16 6 8 5 2) emptyA × NoOn (machineOf 16 6 8 13 2) emptyA × YesOn (machineOf 16 6 8 4 2) emptyA
     -- "k at least 1"
     pub monitors : NoOn (machineOf 16 6 8 0 0) emptyA × YesOn (machineOf 16 6 8 0 1) emptyA
-    -- "Lent: the memory (1,024F words) and the ledger (32+32n words)": a word short, a word long
+    -- "Lent: the memory (1,024F words) and the ledger", #109: "ledger 64+32n words": a word short, a word long
     pub memory-short : No (record { mem = take (16 * frameWords - 1) memory; led = ledgerOf building }) × Yes buildingA
     pub memory-long : No (record { mem = memory ++ (0 ∷ []); led = ledgerOf building }) × Yes buildingA
-    pub ledger-short : No (record { mem = memory; led = take (32 + 32 * 8 - 1) (ledgerOf building) }) × Yes buildingA
+    pub ledger-short : No (record { mem = memory; led = take (64 + 32 * 8 - 1) (ledgerOf building) }) × Yes buildingA
     pub ledger-long : No (record { mem = memory; led = ledgerOf building ++ (0 ∷ []) }) × Yes buildingA
 
   -- ---- "The layout above"
   pub record LayoutDemands : Type 0 where
     -- "bit p mod 32 of word 9 + p div 32 is 1 exactly when page p is free" (page 6 is free and has none; page 0 is not and has one)
     pub free-bit : No (inHeader buildingA mapStart 128) × No (inHeader buildingA mapStart 193) × Yes buildingA
-    -- "other bits 0" (the bits of pages 8 and 224)
-    pub other-bits : No (inHeader buildingA mapStart 448) × No (inHeader buildingA 16 1) × Yes buildingA
-    -- "17-31 zero"
-    pub header-rest : No (inHeader buildingA 17 1) × No (inHeader buildingA 31 1) × Yes buildingA
+    -- "other bits 0" (the bits of pages 8 and 992)
+    pub other-bits : No (inHeader buildingA mapStart 448) × No (inHeader buildingA 40 1) × Yes buildingA
+    -- #109: "free map in words 9-40, zeros after"
+    pub header-rest : No (inHeader buildingA 41 1) × No (inHeader buildingA 63 1) × Yes buildingA
     -- the types are 0-6
     pub types : No (inRecord buildingA 5 typeWord 7) × Yes buildingA
     -- "0 free: owner 0", and "Unnamed words are zero."

@@ -32,7 +32,7 @@ pub record ImagesAreSettled : Type 0 where
 pub record ImagesEighteenExactlyWhen : Type 0 where
   pub no-box : (b : Machine) (r : ℕ) → BlocksCounted b r → (Fits b → ⊥) → r ≡ 0
   pub box : (b : Machine) (r : ℕ) → BlocksCounted b r → Fits b
-      → (32 + 32 * b .pages + 1024 * b .pages ≤ 124 * r) × (124 * r < 32 + 32 * b .pages + 1024 * b .pages + 124)
+      → (64 + 32 * b .pages + 1024 * b .pages ≤ 124 * r) × (124 * r < 64 + 32 * b .pages + 1024 * b .pages + 124)
   pub counted : (b : Machine) (r : ℕ) → BlocksCounted b r → Fits b → r ≡ total b
   pub write-done : (b : Machine) (M L : List ℕ) (number j : ℕ) (B : List ℕ) (r T : ℕ) (B' : List ℕ)
       → BlockWritten b M L number j B r B' → BlocksCounted b T → Given b M L → j < T → length B ≡ 512 → r ≡ 0
@@ -83,12 +83,15 @@ pub record LaidDown (b : Machine) (M L : List ℕ) (number j : ℕ) (B : List �
   pub bytes : AreBytes B
   pub numbered : wordAt B 0 ≡ number
   pub index : wordAt B 1 ≡ j
-  -- as many payloads as hold the image, and no fewer do
-  pub total : (32 + 32 * b .pages + 1024 * b .pages ≤ 124 * wordAt B 2) × (124 * wordAt B 2 < 32 + 32 * b .pages + 1024 * b .pages + 124)
-  pub ledger : (i : ℕ) → i < 124 → 124 * j + i < 32 + 32 * b .pages → wordAt B (3 + i) ≡ getD L (124 * j + i) 0
-  pub frames : (i p k : ℕ) → i < 124 → p < b .pages → k < 1024 → 124 * j + i ≡ 32 + 32 * b .pages + (1024 * p + k)
+  -- #109: "the block total + 65,536"; as many payloads as hold the image, and no fewer do
+  pub blocks : ℕ
+  pub total : wordAt B 2 ≡ blocks + 65536
+  pub enough : 64 + 32 * b .pages + 1024 * b .pages ≤ 124 * blocks
+  pub no-more : 124 * blocks < 64 + 32 * b .pages + 1024 * b .pages + 124
+  pub ledger : (i : ℕ) → i < 124 → 124 * j + i < 64 + 32 * b .pages → wordAt B (3 + i) ≡ getD L (124 * j + i) 0
+  pub frames : (i p k : ℕ) → i < 124 → p < b .pages → k < 1024 → 124 * j + i ≡ 64 + 32 * b .pages + (1024 * p + k)
       → wordAt B (3 + i) ≡ frame M (b .secure + p) k
-  pub fill : (i : ℕ) → i < 124 → 32 + 32 * b .pages + 1024 * b .pages ≤ 124 * j + i → wordAt B (3 + i) ≡ 0
+  pub fill : (i : ℕ) → i < 124 → 64 + 32 * b .pages + 1024 * b .pages ≤ 124 * j + i → wordAt B (3 + i) ≡ 0
   pub check : wordAt B 127 ≡ crc32 (take 508 B)
 
 abbrev pub BlocksAreLaidDown : Type 0
@@ -114,4 +117,4 @@ abbrev pub FirstBlockOfBoxA : Type 0
 FirstBlockOfBoxA =
     let L : List ℕ = freshLedger boxA (1 ∷ 2 ∷ 3 ∷ 4 ∷ 5 ∷ 6 ∷ 7 ∷ 8 ∷ []) in
     let B : List ℕ = blockOf boxA (replicate 16384 0) L 7 0 in
-    (wordAt B 0 ≡ 7) × (wordAt B 2 ≡ 69) × (wordAt B 12 ≡ 255) × (wordAt B 127 ≡ 0x3685ad66)
+    (wordAt B 0 ≡ 7) × (wordAt B 2 ≡ 69 + 65536) × (wordAt B 12 ≡ 255) × (wordAt B 127 ≡ 0xbbde2a8e)

@@ -19,3 +19,4 @@ pub mod Cheats
 pub mod Promises
 pub mod Images
 pub mod Restored
+pub mod Older

@@ -10,7 +10,7 @@ use Rattle.ledger.specs.Names.{runningWord, typeWord, ownerWord, firstPageWord,
 use Rattle.answer.specs.Refusals.{noSuchPage, notFree, notSpace, wrongState, ownerNotFinal, illFormed, slotTaken, noTable, notInsecure, notThread, isSuspended, notSuspended, notStopped, stillOwns, wrongTime, notOwnSpare, notOwnData, illFitting, badRecord, noSuchIndex, alreadyFree, badEntry, badBlock, notAccepted, interrupted, faulted}
 use Rattle.building.specs.Calls.{threadBlock}
 use Rattle.batch.specs.Service.{mostRecords}
-use Rattle.image.specs.Image.{numberAt, indexAt, totalAt, payloadAt, payloadWords, checkAt, blockBytes, bodyBytes}
+use Rattle.image.specs.Image.{numberAt, indexAt, totalAt, totalFrom, payloadAt, payloadWords, checkAt, blockBytes, bodyBytes}
 use Rattle.image.specs.Reader.{progressWords, answerWord, cameWord, numberWord}
 
 -- a name has this number (a record, so that the number is read off its type)
@@ -19,8 +19,8 @@ pub record Number (name number : ℕ) : Type 0 where
 
 pub record NumbersAreTheDocuments : Type 0 where
   -- sizes: F, n, the records of a batch; the words of a frame, of the header, of a record; the free map; the key; bits
-  pub sizes : Number mostFrames 4096 × Number mostPages 256 × Number mostRecords 512
-  pub words : Number frameWords 1024 × Number headerWords 32 × Number recordWords 32 × Number mapStart 9 × Number mapWords 8 × Number keyWords 8 × Number wordBits 32
+  pub sizes : Number mostFrames 16384 × Number mostPages 1024 × Number mostRecords 512
+  pub words : Number frameWords 1024 × Number headerWords 64 × Number recordWords 32 × Number mapStart 9 × Number mapWords 32 × Number keyWords 8 × Number wordBits 32
   -- addresses: a page, a table, the tables, the end; rights
   pub addresses : Number pageBytes 4096 × Number tableBytes (2 ^ 22) × Number mostTables 256 × Number addressEnd (2 ^ 30)
   pub rights : Number executeRight 4 × Number rightsEnd 8
@@ -38,7 +38,7 @@ pub record NumbersAreTheDocuments : Type 0 where
   pub refusals-14 : Number stillOwns 14 × Number wrongTime 15 × Number notOwnSpare 16 × Number notOwnData 17 × Number badRecord 19 × Number noSuchIndex 21 × Number alreadyFree 22 × Number badEntry 23
   pub others : Number illFitting 18 × Number interrupted 32 × Number faulted 33
   -- images: a block's bytes and those before the check, its words, the payload's; progress; 25 a bad block, 26 acceptance's no
-  pub images : Number blockBytes 512 × Number bodyBytes 508 × Number numberAt 0 × Number indexAt 1 × Number totalAt 2 × Number payloadAt 3 × Number payloadWords 124 × Number checkAt 127
+  pub images : Number blockBytes 512 × Number bodyBytes 508 × Number numberAt 0 × Number indexAt 1 × Number totalAt 2 × Number totalFrom 65536 × Number payloadAt 3 × Number payloadWords 124 × Number checkAt 127
   pub reading : Number progressWords 4 × Number answerWord 0 × Number cameWord 1 × Number numberWord 2 × Number badBlock 25 × Number notAccepted 26
   -- measuring: what a data page counts; "A thread adds the 16 words 1, entry, zeros."
   pub blocks : Number dataBlocks 65

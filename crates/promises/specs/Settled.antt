@@ -27,16 +27,16 @@ BatchIsSettled =
     (b : Machine) (M L W A : List ℕ) (r r' : ℕ) (M₁ L₁ A₁ M₂ L₂ A₂ : List ℕ) → Batched b M L W A r M₁ L₁ A₁ → Batched b M L W A r' M₂ L₂ A₂
     → (r ≡ r') × (M₁ ≡ M₂) × (L₁ ≡ L₂) × (A₁ ≡ A₂)
 
--- "18 is given exactly when machine numbers or lengths break these rules .. or, for a batch, acceptance says no. Otherwise 0.": by the
--- document's own numbers
+-- "18 is given exactly when machine numbers or lengths break these rules .. or, for a batch, acceptance says no. Otherwise Boot and a batch
+-- answer 0": by the documents' own numbers
 pub record Given (b : Machine) (M L : List ℕ) : Type 0 where
-  pub frames : (1 ≤ b .frames) × (b .frames ≤ 4096)
-  pub pages : (1 ≤ b .pages) × (b .pages ≤ 256)
+  pub frames : (1 ≤ b .frames) × (b .frames ≤ 16384)
+  pub pages : (1 ≤ b .pages) × (b .pages ≤ 1024)
   pub monitors : 1 ≤ b .monitors
   pub below : (b .secure + b .pages ≤ b .frames) × (b .monitor + b .monitors ≤ b .frames)
   pub apart : (f : ℕ) → OfSecure b f → OfMonitor b f → ⊥
   pub memory : length M ≡ 1024 * b .frames
-  pub ledger : length L ≡ 32 + 32 * b .pages
+  pub ledger : length L ≡ 64 + 32 * b .pages
 
 pub record Asked (b : Machine) (M L W A : List ℕ) : Type 0 where
   pub given : Given b M L

@@ -23,7 +23,7 @@ const KEY: [u32; 8] = [1, 2, 3, 4, 5, 6, 7, 8];
 
 const MEMORY_WORDS: usize = 16384;
 
-const LEDGER_WORDS: usize = 288;
+const LEDGER_WORDS: usize = 320;
 
 // Word i of frame f holds 1024f + i: its own place.
 fn fill(memory: &mut [u32])

@@ -70,14 +70,14 @@ module _ {b : Machine} {M L : List ℕ} (ok : Accepted b M L) where
   count-is =
       let n = b .pages in
       let few = ok .lent .fits .pages-high in
-      sum-ext 256 (mapBit L) one (bit-says ok)
-      ∙ ap (λ (x : ℕ). sumBelow x one) {x = 256} {y = n + (256 - n)} (omega arith)
-      ∙ sum-add n (256 - n) one
+      sum-ext 1024 (mapBit L) one (bit-says ok)
+      ∙ ap (λ (x : ℕ). sumBelow x one) {x = 1024} {y = n + (1024 - n)} (omega arith)
+      ∙ sum-add n (1024 - n) one
       ∙ omega (
         arith,
         sum-ext n one (freeOnes L) one-is,
-        sum-ext (256 - n) (λ i. one (n + i)) (λ i. 0) (λ i l. sym (past-pages n (rec L) (n + i) (omega arith))),
-        sum-bound (256 - n) 0 (λ i. 0) (λ i. omega arith),
+        sum-ext (1024 - n) (λ i. one (n + i)) (λ i. 0) (λ i l. sym (past-pages n (rec L) (n + i) (omega arith))),
+        sum-bound (1024 - n) 0 (λ i. 0) (λ i. omega arith),
       )
 
   -- the answer's second number is x: none below it is free, and it is n or free
@@ -94,11 +94,11 @@ module _ {b : Machine} {M L : List ℕ} (ok : Accepted b M L) where
   some : (freeCount L ≡ 0 → ⊥) → FreeCounted b L (0 ∷ freeCount L ∷ lowestFree b L ∷ [])
   unfolding lowestFree freeCount
   some n =
-      let x = leastBelow 256 one in
-      let found : x < 256 = least-found 256 one (λ z. n (sum-ext 256 (mapBit L) one (bit-says ok) ∙ z)) in
-      let here = counted-one x (least-at 256 one found) in
-      counts-by x (rw (ne-eqb (freeCount L) 0 n) (least-ext 256 (mapBit L) one (bit-says ok))) (omega arith) (λ _. here .1)
-      (λ q l z. omega (arith, is-free (b .pages) (rec L) q (omega arith) z, least-below 256 one q l))
+      let x = leastBelow 1024 one in
+      let found : x < 1024 = least-found 1024 one (λ z. n (sum-ext 1024 (mapBit L) one (bit-says ok) ∙ z)) in
+      let here = counted-one x (least-at 1024 one found) in
+      counts-by x (rw (ne-eqb (freeCount L) 0 n) (least-ext 1024 (mapBit L) one (bit-says ok))) (omega arith) (λ _. here .1)
+      (λ q l z. omega (arith, is-free (b .pages) (rec L) q (omega arith) z, least-below 1024 one q l))
 
   counts : FreeCounted b L (0 ∷ freeCount L ∷ lowestFree b L ∷ [])
   counts = ⊎-elim none some (same-or (freeCount L) 0)
