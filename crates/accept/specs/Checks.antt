@@ -2,7 +2,7 @@
 -- and proofs/Parts.antt shows that the parts together are just that. Assumes nothing.
 use Prim.Native.Nat.{ℕ, zero, suc, _+_, _-_, _*_, _≤_, _<_}
 use mathlib.Core.Path.{_≡_}
-use mathlib.Core.Bool.{Bool, true, false}
+use mathlib.Core.Bool.{true}
 use mathlib.Core.List.{List}
 use lib.ListN.{length, getD}
 use Rattle.words.specs.Words.{recordWords, sumBelow}
@@ -121,10 +121,12 @@ pub record Count (n : ℕ) (w : Words) (a owned blocks : ℕ) : Type 0 where
 abbrev pub Counts : ℕ → Words → Type 0
 Counts n w = (a : ℕ) → a < n → w a typeWord ≡ space → Count n w a (sumBelow n (tally counted w a)) (sumBelow n (tally measured w a))
 
--- what is summed: blocks measured, or pages owned
-abbrev pub weight : Bool → ℕ → ℕ
-weight true = measured
-weight false = counted
+-- both are summed in one word: pages owned, and blocks measured in steps that those do not reach
+abbrev pub blockStep : ℕ
+blockStep = 2 * mostPages
+
+abbrev pub weight : ℕ → ℕ
+weight t = counted t + blockStep * measured t
 
 -- an array with the sum for each owner
 pub record Tallied (g : ℕ → ℕ) (w : Words) (n : ℕ) (c : List ℕ) : Type 0 where

@@ -14,28 +14,27 @@ use ledger::word;
 use machine::MOST_PAGES;
 ghost use mathlib.Core.Path.{_≡_};
 ghost use Prim.Native.Nat.{ℕ, _<_, _≤_};
-ghost use lib.ListN.{length, getD};
 ghost use Rattle.words.specs.Words.{Says};
 ghost use Rattle.machine.specs.Machine.{mostPages};
 ghost use Rattle.ledger.specs.Names.{space, typeWord};
 ghost use Rattle.ledger.specs.Ledger.{rec};
 ghost use Rattle.accept.specs.Checks.{Count, Counts, weight, Tallied};
 
+// Each owner's sum is one word: the pages that it owns, and its blocks in steps of this, which the pages do not reach.
+const BLOCK: u32 = 2 * MOST_PAGES;
+
 // A sum for each page that may own others.
 const SUMS: usize = MOST_PAGES as usize;
 
-// What a page of type t adds: to the blocks a thread 1 and a data page 65, to the pages owned all but a space 1.
-fn weigh(blocks: bool, t: u32) -> u32
-    ensures { λ r. ⌜ r ≡ weight blocks t ⌝ }
+// What a page of type t adds: all but a free page and a space 1; besides, in blocks, a thread 1 and a data page 65.
+fn weigh(t: u32) -> u32
+    ensures { λ r. ⌜ r ≡ weight t ⌝ }
 {
-    if blocks {
-        if t == THREAD {
-            return 1;
-        }
-        if t == DATA {
-            return DATA_BLOCKS;
-        }
-        return 0;
+    if t == THREAD {
+        return 1 + BLOCK;
+    }
+    if t == DATA {
+        return 1 + BLOCK * DATA_BLOCKS;
     }
     if SPACE < t {
         return 1;
@@ -43,28 +42,21 @@ fn weigh(blocks: bool, t: u32) -> u32
     0
 }
 
-fn no_sums() -> [u32; SUMS]
-    ensures { λ r. ⌜ (length r ≡ mostPages) × ((x : ℕ) → getD r x 0 ≡ 0) ⌝ }
-{
-    [0u32; SUMS]
-}
-
 // The sum for each owner, by one pass.
-fn tallies(n: u32, led: &[u32], blocks: bool) -> [u32; SUMS]
+fn tallies(n: u32, led: &[u32], sums: &mut [u32])
     requires { ⌜ n ≤ mostPages ⌝ }
-    ensures { λ r. ⌜ Tallied (weight blocks) (rec (now (led .entry))) n r ⌝ }
+    requires { ⌜ Tallied weight (rec (now led)) 0 (now sums) ⌝ }
+    ensures { λ r. ⌜ Tallied weight (rec (now (led .entry))) n (now (sums .exit)) ⌝ }
 {
-    let mut c = no_sums();
     let mut p: u32 = 0;
     while p < n {
-        let k = weigh(blocks, word(led, p, TYPE));
+        let k = weigh(word(led, p, TYPE));
         let a = word(led, p, OWNER);
         if a < MOST_PAGES {
-            c[a as usize] += k;
+            sums[a as usize] += k;
         }
         p += 1;
     }
-    c
 }
 
 // If a is a space, are its counts these?
@@ -114,11 +106,12 @@ pub fn counts_ok(n: u32, led: &[u32]) -> bool
     if first == n {
         return true;
     }
-    let owned = tallies(n, led, false);
-    let blocks = tallies(n, led, true);
+    let mut sums = [0u32; SUMS];
+    tallies(n, led, &mut sums);
     let mut a = first;
     while a < n {
-        if !count_ok(n, led, a, owned[a as usize], blocks[a as usize]) {
+        let sum = sums[a as usize];
+        if !count_ok(n, led, a, sum % BLOCK, sum / BLOCK) {
             return false;
         }
         a += 1;

@@ -14,8 +14,8 @@ use Rattle.ledger.specs.Ledger.{header, rec, mapBit}
 use Rattle.memory.specs.Memory.{frame, putWord}
 use Rattle.memory.proofs.Frames.{putWord-other}
 use Rattle.accept.specs.Accept.{Is, Tables, isFree, Runs, HeaderOk, Rules, Accepted}
+use Rattle.accept.proofs.Sums.{count-sum, measured-sum}
 use Rattle.kept.proofs.Facts.FreeMap.{map-bit}
-use Rattle.kept.proofs.Facts.Sums.{count-sum, measured-sum}
 use Rattle.kept.proofs.Facts.Exact.{Exact}
 
 -- ---- what an accepted state gives
