@@ -1,14 +1,15 @@
 -- A word of the free map, summed bit by bit. Assumes nothing.
-use Prim.Native.Nat.{ℕ, zero, suc, _+_, _*_, _%_, _^_, _≤_, _<_}
-use mathlib.Core.Path.{_≡_, refl, sym, _∙_}
-use native.Mathlib.Nat.{pow-suc, one-mul, zero-mul, lt-of-lt-of-le}
-use native.Mathlib.Numerals.{add-one}
+use Prim.Native.Nat.{ℕ, _+_, _*_, _%_, _^_, _≤_, _<_}
+use mathlib.Core.Path.{_≡_, refl, sym}
+use native.Mathlib.Nat.{zero-mul, lt-of-lt-of-le}
 use native.Mathlib.Omega.{arith}
 use lib.Dec.{eqb, ltb}
 use lib.Pow.{pow-mono, shl-exact}
 use borrow.Author.Tests.{eq-eqb, ne-eqb, lt-ltb, le-ltb}
 use Rattle.words.specs.Words.{sumBelow, pick}
 use Rattle.words.proofs.Cases.{pick-le}
+use Rattle.words.proofs.Bits.{sum-fits}
+use Rattle.words.proofs.Sums.{sum-suc, sum-zero}
 use Rattle.accept.specs.Accept.{Words, isFree, mapWord}
 
 module _ (n : ℕ) (w : Words) (p : ℕ) where
@@ -33,11 +34,6 @@ module _ (n : ℕ) (w : Words) (p : ℕ) where
 unfoldable pub lowBits : ℕ → Words → ℕ → ℕ → ℕ
 lowBits n w j i = sumBelow i (λ k. isFree n w (32 * j + k) * 2 ^ k)
 
-one-bit : (f k : ℕ) → f ≤ 1 → f * k ≤ k
-one-bit zero k l = rw (zero-mul k) (omega arith)
-one-bit (suc zero) k l = rw (one-mul k) (omega arith)
-one-bit (suc (suc f)) k l = absurd (omega arith)
-
 module _ (n : ℕ) (w : Words) (j : ℕ) where
   pub low-none : 0 ≡ lowBits n w j 0
   unfolding lowBits sumBelow
@@ -47,30 +43,21 @@ module _ (n : ℕ) (w : Words) (j : ℕ) where
   unfolding lowBits mapWord
   low-all = refl
 
-  low-suc : (i : ℕ) → lowBits n w j (suc i) ≡ lowBits n w j i + isFree n w (32 * j + i) * 2 ^ i
-  unfolding lowBits sumBelow
-  low-suc i = refl
-
-  low-past : n ≤ 32 * j → (i : ℕ) → lowBits n w j i ≡ 0
-  low-past l zero = sym low-none
-  low-past l (suc i) =
-      let z : isFree n w (32 * j + i) * 2 ^ i ≡ 0 = rw (← past-pages n w (32 * j + i) (omega arith)) (zero-mul (2 ^ i)) in
-      omega (arith, low-suc i, low-past l i)
-
   -- no page of the word is below n
   pub map-past : n ≤ 32 * j → 0 ≡ mapWord n w j
-  map-past l = sym (sym low-all ∙ low-past l 32)
-
-  low-fits : (i : ℕ) → lowBits n w j i < 2 ^ i
-  low-fits zero = omega (arith, low-none)
-  low-fits (suc i) = omega (arith, low-suc i, low-fits i, pow-suc 2 i, one-bit (isFree n w (32 * j + i)) (2 ^ i) (free-le n w (32 * j + i)))
+  unfolding mapWord
+  map-past l = sym (sum-zero 32 _ (λ i _. rw (← past-pages n w (32 * j + i) (omega arith)) (zero-mul (2 ^ i))))
 
   -- one bit more, as the code adds it
   module _ {i r sum : ℕ} (l : i < 32) (e : r ≡ isFree n w (32 * j + i)) (s : sum ≡ lowBits n w j i) where
     pub low-more : sum + (r * 2 ^ i) % 4294967296 ≡ lowBits n w j (i + 1)
+    unfolding lowBits
     low-more =
         let x : (r * 2 ^ i) % 4294967296 ≡ r * 2 ^ i = shl-exact 1 i 32 (omega (arith, free-le n w (32 * j + i))) (omega arith) in
-        rw (add-one i) (rw x (rw (low-suc i) (rw e (rw s refl))))
+        rw x (rw e (rw s (sym (sum-suc i _))))
 
     pub low-room : sum + (r * 2 ^ i) % 4294967296 < 4294967296
-    low-room = rw low-more (lt-of-lt-of-le (low-fits (i + 1)) (pow-mono {i = i + 1} {j = 32} (omega arith)))
+    unfolding lowBits
+    low-room =
+        let small = sum-fits (i + 1) (λ k. isFree n w (32 * j + k)) (λ k. free-le n w (32 * j + k)) in
+        rw low-more (lt-of-lt-of-le small (pow-mono {i = i + 1} {j = 32} (omega arith)))

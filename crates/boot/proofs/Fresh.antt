@@ -1,17 +1,17 @@
 -- What Boot leaves: the words of a fresh ledger and of the secure frames, and that acceptance passes. Assumes nothing.
-use Prim.Native.Nat.{ℕ, zero, suc, _+_, _-_, _*_, _%_, _^_, _≤_, _<_}
+use Prim.Native.Nat.{ℕ, suc, _+_, _-_, _*_, _%_, _^_, _≤_, _<_}
 use mathlib.Core.Path.{_≡_, refl, sym, ap, _∙_}
 use mathlib.Core.List.{List, [], _∷_, _++_, append-assoc}
 use native.Mathlib.Omega.{arith}
-use native.Mathlib.Nat.{add-zero, add-suc, pow-suc, one-mul, zero-mul}
-use borrow.Author.Tests.{lt-ltb, le-ltb}
 use borrow.Rule.Slice.PartMut.{midOf, postOf, putMid, mid-len, post-is}
 use lib.ListN.{length, getD, take, drop, replicate, length-append, length-replicate, replicate-append-replicate, List·getD-append}
 use lib.Seq.{getD-append-add, take-at, drop-at}
 use lib.Pow.{pow-pos}
-use Rattle.words.specs.Words.{recordWords, sumBelow, paste, listBelow}
+use Rattle.words.specs.Words.{recordWords, paste, listBelow}
+use Rattle.words.specs.Maps.{wordOf}
 use Rattle.words.proofs.Bits.{shift}
 use Rattle.words.proofs.Sums.{sum-ext}
+use Rattle.words.proofs.Maps.{map-facts}
 use Rattle.words.proofs.Paste.{length-paste, paste-in}
 use Rattle.words.proofs.Lists.{length-listBelow, listBelow-at, zeros-at}
 use Rattle.machine.specs.declared.Machine.{Machine}
@@ -22,46 +22,19 @@ use Rattle.memory.specs.Memory.{frame}
 use Rattle.accept.specs.Accept.{Words, Zeros, isFree, mapWord, Rules, Accepted}
 use Rattle.boot.specs.Boot.{freshMap, freshLedger, freshMemory, BootFits}
 
--- ---- word j of the free map: a page below n has its bit, the others have not
-module _ (n j : ℕ) where
-  abbrev bitOf : ℕ → ℕ
-  bitOf i = isFree n (λ p k. 0) (32 * j + i) * 2 ^ i
-
-  one : (i : ℕ) → 32 * j + i < n → bitOf i ≡ 2 ^ i
-  unfolding isFree
-  one i l = rw (lt-ltb (32 * j + i) n l) (one-mul (2 ^ i))
-
-  none : (i : ℕ) → n ≤ 32 * j + i → bitOf i ≡ 0
-  unfolding isFree
-  none i l = rw (le-ltb (32 * j + i) n l) (zero-mul (2 ^ i))
-
-  ones : (k : ℕ) → 32 * j + k ≤ n → sumBelow k bitOf + 1 ≡ 2 ^ k
-  unfolding sumBelow
-  ones zero l = refl
-  ones (suc k) l = omega (arith, ones k (omega arith), one k (omega arith), pow-suc 2 k)
-
-  nones : (c k : ℕ) → n ≤ 32 * j + c → sumBelow (c + k) bitOf ≡ sumBelow c bitOf
-  unfolding sumBelow
-  nones c zero l = ap (λ (x : ℕ). sumBelow x bitOf) (add-zero c)
-  nones c (suc k) l = ap (λ (x : ℕ). sumBelow x bitOf) (add-suc c k) ∙ omega (arith, nones c k l, none (c + k) (omega arith))
-
--- as the code makes it: no page, 32 pages or more, c pages from 32 j on
+-- ---- word j of the free map, as the code makes it: no page, 32 pages or more, c pages from 32 j on
 module _ (b : Machine) (j : ℕ) where
   pub map-empty : b .pages ≤ 32 * j → 0 ≡ freshMap b j
-  unfolding freshMap mapWord sumBelow
-  map-empty l = sym (nones (b .pages) j 0 32 (omega arith))
+  unfolding freshMap mapWord isFree wordOf
+  map-empty l = sym (map-facts mapWords .fresh-empty (b .pages) j l)
 
   pub map-full : 32 * j + 32 ≤ b .pages → 4294967295 ≡ freshMap b j
-  unfolding freshMap mapWord
-  map-full l = omega (arith, ones (b .pages) j 32 l)
+  unfolding freshMap mapWord isFree wordOf
+  map-full l = sym (map-facts mapWords .fresh-full (b .pages) j l)
 
   pub map-part : (c : ℕ) → 32 * j + c ≡ b .pages → c < 32 → (1 * 2 ^ c) % 4294967296 - 1 ≡ freshMap b j
-  unfolding freshMap mapWord
-  map-part c e l =
-      let f : ℕ → ℕ = bitOf (b .pages) j in
-      let s : sumBelow 32 f ≡ sumBelow c f =
-      ap (λ (x : ℕ). sumBelow x f) {x = 32} {y = c + (32 - c)} (omega arith) ∙ nones (b .pages) j c (32 - c) (omega arith) in
-      omega (arith, s, ones (b .pages) j c (omega arith), shift c l)
+  unfolding freshMap mapWord isFree wordOf
+  map-part c e l = rw (shift c l) (sym (map-facts mapWords .fresh-part (b .pages) j c e l))
 
 -- there is something to take 1 from
 pub shift-pos : (c : ℕ) → c < 32 → 1 ≤ (1 * 2 ^ c) % 4294967296

@@ -1,6 +1,5 @@
--- What an accepted state gives and what makes one: sums, the free map, layouts, mappings, tables, and the effects on a ledger that is exact.
+-- What an accepted state gives and what makes one: sums, layouts, mappings, tables, and the effects on a ledger that is exact.
 pub mod Sums
-pub mod FreeMap
 pub mod Layouts
 pub mod Mappings
 pub mod Leaves

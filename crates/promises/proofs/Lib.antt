@@ -16,6 +16,7 @@ pub mod Tells
 pub mod Attested
 pub mod Jobs
 pub mod Entries
+pub mod Maps
 pub mod Published
 pub mod Decided
 pub mod Demands

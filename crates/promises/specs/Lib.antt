@@ -13,6 +13,7 @@ pub mod Tells
 pub mod Attested
 pub mod Jobs
 pub mod Entries
+pub mod Maps
 pub mod Published
 pub mod Demands
 pub mod Cheats

@@ -17,6 +17,7 @@ use Rattle.promises.specs.Kept.{EveryRecordKeeps, EveryBatchKeeps, Outsi
 use Rattle.promises.specs.Access.{LoadTouchesOneWord, StoreTouchesOneWord, AccessTellsNoMore, ReachedAlone, ReachedAloneAlways}
 use Rattle.promises.specs.Images.{ImagesAreSettled, ImagesEighteenExactlyWhen, ImagesRefuseAlone, ProgressTells, BlocksAreLaidDown, ChecksAreSeen, FirstBlockOfBoxA}
 use Rattle.promises.specs.Restored.{ImageYes, FirstBadBlock, ImageRoundTrip, AcceptanceReadsSecureAlone, Restored}
+use Rattle.promises.specs.Maps.{MapsOfAnySize, MapOfTheLedger}
 use Rattle.promises.specs.Older.{OldImagesAreRefused, OldLedgersAreRefused}
 use Rattle.promises.specs.Shut.{MonitorFramesStay, MonitorFramesUnread, OthersPagesStay, RemoveZeroesAlone}
 
@@ -116,5 +117,7 @@ pub record Promises : Type 0 where
   pub acceptance-reads-secure-alone : AcceptanceReadsSecureAlone
   pub restored : Restored
   -- #109: bigger boxes
+  pub maps-of-any-size : MapsOfAnySize
+  pub map-of-the-ledger : MapOfTheLedger
   pub old-images-are-refused : OldImagesAreRefused
   pub old-ledgers-are-refused : OldLedgersAreRefused

@@ -1,13 +1,15 @@
--- The bits of a word: halving, one bit made 0 or made 1, and a word as the sum of its bits. Assumes nothing.
+-- The bits of a word: halving, a word as the sum of its bits, and one bit made 0 or made 1. Assumes nothing.
 use Prim.Native.Nat.{ℕ, zero, suc, _+_, _*_, _-_, _/_, _%_, _^_, _≤_, _<_}
 use mathlib.Core.Path.{_≡_, refl, sym, ap, _∙_}
 use mathlib.Core.Logic.{_⊎_, ⊎-elim, inl, inr}
 use native.Mathlib.Nat.{pow-suc, mul-assoc, one-mul, le-of-suc-le-suc}
 use native.Mathlib.Omega.{arith}
-use native.Mathlib.Decide.{ℕ-discrete}
 use lib.Pow.{shr-shr, shl-exact}
-use lib.Dec.{lit<}
-use Rattle.words.specs.Words.{bit, bitOff, bitOn, sumBelow}
+use lib.Dec.{lit<, eqb}
+use borrow.Author.Tests.{eq-eqb, ne-eqb}
+use Rattle.words.specs.Words.{pick, bit, bitOff, bitOn, sumBelow}
+use Rattle.words.proofs.Cases.{same-or, pick-le}
+use Rattle.words.proofs.Sums.{sum-change}
 
 -- ---- the lowest bit, and the others
 pub bit-zero : (w : ℕ) → bit w 0 ≡ w % 2
@@ -25,90 +27,6 @@ bit-le w j = omega arith
 pub bit-of-zero : (j : ℕ) → bit 0 j ≡ 0
 bit-of-zero zero = bit-zero 0
 bit-of-zero (suc j) = bit-suc 0 j ∙ bit-of-zero j
-
--- ---- a bit that is 0 is made 1 by adding 2 ^ k
-half-add : (w k : ℕ) → (w + 2 ^ suc k) / 2 ≡ w / 2 + 2 ^ k
-half-add w k = let e : 2 ^ suc k ≡ 2 ^ k * 2 = pow-suc 2 k in omega arith
-
-odd-add : (w k : ℕ) → (w + 2 ^ suc k) % 2 ≡ w % 2
-odd-add w k = let e : 2 ^ suc k ≡ 2 ^ k * 2 = pow-suc 2 k in omega arith
-
-pub add-same : (w k : ℕ) → bit w k ≡ 0 → bit (w + 2 ^ k) k ≡ 1
-add-same w zero z = rw bit-zero (omega (arith, bit-zero w))
-add-same w (suc k) z = bit-suc (w + 2 ^ suc k) k ∙ ap (λ (x : ℕ). bit x k) (half-add w k) ∙ add-same (w / 2) k (sym (bit-suc w k) ∙ z)
-
-pub add-other : (w k j : ℕ) → (j ≡ k → ⊥) → bit w k ≡ 0 → bit (w + 2 ^ k) j ≡ bit w j
-add-other w zero zero n z = absurd (n refl)
-add-other w zero (suc j) n z =
-    bit-suc (w + 1) j ∙ ap (λ (x : ℕ). bit x j) {x = (w + 1) / 2} {y = w / 2} (omega (arith, bit-zero w)) ∙ sym (bit-suc w j)
-add-other w (suc k) zero n z = bit-zero (w + 2 ^ suc k) ∙ odd-add w k ∙ sym (bit-zero w)
-add-other w (suc k) (suc j) n z =
-    bit-suc (w + 2 ^ suc k) j
-    ∙ ap (λ (x : ℕ). bit x j) (half-add w k)
-    ∙ add-other (w / 2) k j (λ e. n (ap suc e)) (sym (bit-suc w k) ∙ z)
-    ∙ sym (bit-suc w j)
-
-pub add-fits : (n w k : ℕ) → k < n → w < 2 ^ n → bit w k ≡ 0 → w + 2 ^ k < 2 ^ n
-add-fits zero w k l f z = absurd (omega arith)
-add-fits (suc n) w zero l f z = omega (arith, pow-suc 2 n, bit-zero w)
-add-fits (suc n) w (suc k) l f z =
-    let e : 2 ^ suc n ≡ 2 ^ n * 2 = pow-suc 2 n in
-    omega (arith, pow-suc 2 k, add-fits n (w / 2) k (le-of-suc-le-suc l) (omega arith) (sym (bit-suc w k) ∙ z))
-
--- ---- a bit that is 1 is made 0 by taking 2 ^ k away
-pub sub-le : (w k : ℕ) → bit w k ≡ 1 → 2 ^ k ≤ w
-sub-le w zero o = omega (arith, bit-zero w)
-sub-le w (suc k) o = omega (arith, pow-suc 2 k, sub-le (w / 2) k (sym (bit-suc w k) ∙ o))
-
-pub sub-same : (w k : ℕ) → bit w k ≡ 1 → bit (w - 2 ^ k) k ≡ 0
-sub-same w zero o = rw bit-zero (omega (arith, bit-zero w))
-sub-same w (suc k) o =
-    let l : 2 ^ k ≤ w / 2 = sub-le (w / 2) k (sym (bit-suc w k) ∙ o) in
-    bit-suc (w - 2 ^ suc k) k
-    ∙ ap (λ (x : ℕ). bit x k) {x = (w - 2 ^ suc k) / 2} {y = w / 2 - 2 ^ k} (omega (arith, pow-suc 2 k))
-    ∙ sub-same (w / 2) k (sym (bit-suc w k) ∙ o)
-
-pub sub-other : (w k j : ℕ) → (j ≡ k → ⊥) → bit w k ≡ 1 → bit (w - 2 ^ k) j ≡ bit w j
-sub-other w k j n o =
-    let e : w - 2 ^ k + 2 ^ k ≡ w = omega (arith, sub-le w k o) in
-    sym (add-other (w - 2 ^ k) k j n (sub-same w k o)) ∙ ap (λ (x : ℕ). bit x j) e
-
--- ---- bitOff and bitOn
-module _ (w k : ℕ) where
-  pub off-one : bit w k ≡ 1 → bitOff w k ≡ w - 2 ^ k
-  unfolding bitOff
-  off-one o = rw (o, one-mul)
-
-  pub off-zero : bit w k ≡ 0 → bitOff w k ≡ w
-  unfolding bitOff
-  off-zero z = rw z (omega arith)
-
-  pub on-zero : bit w k ≡ 0 → bitOn w k ≡ w + 2 ^ k
-  unfolding bitOn
-  on-zero z = rw (z, one-mul)
-
-  pub on-one : bit w k ≡ 1 → bitOn w k ≡ w
-  unfolding bitOn
-  on-one o = rw o (omega arith)
-
-  pub zero-or-one : (bit w k ≡ 0) ⊎ (bit w k ≡ 1)
-  zero-or-one = go (ℕ-discrete (bit w k) 0)
-    where
-      go : Dec (bit w k ≡ 0) → (bit w k ≡ 0) ⊎ (bit w k ≡ 1)
-      go (yes z) = inl z
-      go (no n) = inr (omega (arith, bit-le w k))
-
-  pub off-same : bit (bitOff w k) k ≡ 0
-  off-same = ⊎-elim (λ z. ap (λ (x : ℕ). bit x k) (off-zero z) ∙ z) (λ o. ap (λ (x : ℕ). bit x k) (off-one o) ∙ sub-same w k o) zero-or-one
-
-  pub off-other : (j : ℕ) → (j ≡ k → ⊥) → bit (bitOff w k) j ≡ bit w j
-  off-other j n = ⊎-elim (λ z. ap (λ (x : ℕ). bit x j) (off-zero z)) (λ o. ap (λ (x : ℕ). bit x j) (off-one o) ∙ sub-other w k j n o) zero-or-one
-
-  pub on-same : bit (bitOn w k) k ≡ 1
-  on-same = ⊎-elim (λ z. ap (λ (x : ℕ). bit x k) (on-zero z) ∙ add-same w k z) (λ o. ap (λ (x : ℕ). bit x k) (on-one o) ∙ o) zero-or-one
-
-  pub on-other : (j : ℕ) → (j ≡ k → ⊥) → bit (bitOn w k) j ≡ bit w j
-  on-other j n = ⊎-elim (λ z. ap (λ (x : ℕ). bit x j) (on-zero z) ∙ add-other w k j n z) (λ o. ap (λ (x : ℕ). bit x j) (on-one o)) zero-or-one
 
 -- the code's 1 << j
 pub shift : (j : ℕ) → j < 32 → (1 * 2 ^ j) % 4294967296 ≡ 2 ^ j
@@ -130,3 +48,85 @@ bit-sum (suc n) f le (suc j) l =
     let T = sumBelow n (λ i. f (suc i) * 2 ^ i) in
     let h : S / 2 ≡ T = omega (arith, sum-shift n f, le 0) in
     bit-suc S j ∙ ap (λ (x : ℕ). bit x j) h ∙ bit-sum n (λ i. f (suc i)) (λ i. le (suc i)) j (le-of-suc-le-suc l)
+
+pub sum-fits : (n : ℕ) (f : ℕ → ℕ) → ((i : ℕ) → f i ≤ 1) → sumBelow n (λ i. f i * 2 ^ i) < 2 ^ n
+unfolding sumBelow
+sum-fits zero f le = omega arith
+sum-fits (suc n) f le = omega (arith, sum-shift n f, le 0, sum-fits n (λ i. f (suc i)) (λ i. le (suc i)), pow-suc 2 n)
+
+pub sum-of-bits : (n w : ℕ) → w < 2 ^ n → sumBelow n (λ i. bit w i * 2 ^ i) ≡ w
+unfolding sumBelow
+sum-of-bits zero w l = omega arith
+sum-of-bits (suc n) w l =
+    let e : sumBelow n (λ i. bit w (suc i) * 2 ^ i) ≡ w / 2 = simp (bit-suc w) (sum-of-bits n (w / 2) (omega (arith, pow-suc 2 n))) in
+    omega (arith, sum-shift n (bit w), bit-zero w)
+
+-- all of them 1
+pub low-ones : (n : ℕ) (f : ℕ → ℕ) → ((i : ℕ) → i < n → f i ≡ 1) → sumBelow n (λ i. f i * 2 ^ i) + 1 ≡ 2 ^ n
+unfolding sumBelow
+low-ones zero f one = refl
+low-ones (suc n) f one = rw (one n (omega arith)) (omega (arith, low-ones n f (λ i l. one i (omega arith)), pow-suc 2 n))
+
+-- ---- a word v that is w with b for its bit k
+pub bit-made : (n w k v b : ℕ) → k < n → w < 2 ^ n → b ≤ 1 → v + bit w k * 2 ^ k ≡ w + b * 2 ^ k
+    → (v < 2 ^ n) × (bit v k ≡ b) × ((j : ℕ) → j < n → (j ≡ k → ⊥) → bit v j ≡ bit w j)
+bit-made n w k v b l fits small is = (
+  rw sum (sum-fits n made le),
+  rw sum (bit-sum n made le k l ∙ here),
+  λ j h ne. rw sum (bit-sum n made le j h ∙ other j ne),
+)
+  where
+    made : ℕ → ℕ
+    made i = pick (eqb i k) b (bit w i)
+
+    le : (i : ℕ) → made i ≤ 1
+    le i = pick-le (eqb i k) b (bit w i) 1 small (bit-le w i)
+
+    here : made k ≡ b
+    here = rw (eq-eqb k k refl)
+
+    other : (i : ℕ) → (i ≡ k → ⊥) → made i ≡ bit w i
+    other i ne = rw (ne-eqb i k ne)
+
+    sum : v ≡ sumBelow n (λ i. made i * 2 ^ i)
+    sum =
+        omega (
+          arith,
+          sum-change n k (λ i. made i * 2 ^ i) (λ i. bit w i * 2 ^ i) l (λ i _ ne. ap (λ (x : ℕ). x * 2 ^ i) (other i ne)),
+          ap (λ (x : ℕ). x * 2 ^ k) here,
+          sum-of-bits n w fits,
+        )
+
+-- ---- bitOff and bitOn
+pub sub-le : (w k : ℕ) → bit w k ≡ 1 → 2 ^ k ≤ w
+sub-le w zero o = omega (arith, bit-zero w)
+sub-le w (suc k) o = omega (arith, pow-suc 2 k, sub-le (w / 2) k (sym (bit-suc w k) ∙ o))
+
+pub add-fits : (n w k : ℕ) → k < n → w < 2 ^ n → bit w k ≡ 0 → w + 2 ^ k < 2 ^ n
+add-fits n w k l f z = bit-made n w k (w + 2 ^ k) 1 l f (omega arith) (rw z (omega arith)) .0
+
+module _ (w k : ℕ) where
+  pub off-one : bit w k ≡ 1 → bitOff w k ≡ w - 2 ^ k
+  unfolding bitOff
+  off-one o = rw (o, one-mul)
+
+  pub off-zero : bit w k ≡ 0 → bitOff w k ≡ w
+  unfolding bitOff
+  off-zero z = rw z (omega arith)
+
+  pub on-zero : bit w k ≡ 0 → bitOn w k ≡ w + 2 ^ k
+  unfolding bitOn
+  on-zero z = rw (z, one-mul)
+
+  pub on-one : bit w k ≡ 1 → bitOn w k ≡ w
+  unfolding bitOn
+  on-one o = rw o (omega arith)
+
+  zero-or-one : (bit w k ≡ 0) ⊎ (bit w k ≡ 1)
+  zero-or-one = ⊎-elim inl (λ n. inr (omega (arith, bit-le w k))) (same-or (bit w k) 0)
+
+  pub off-is : bitOff w k + bit w k * 2 ^ k ≡ w + 0 * 2 ^ k
+  off-is = ⊎-elim (λ z. rw (off-zero z) (rw z refl)) (λ o. rw (off-one o) (rw o (omega (arith, sub-le w k o)))) zero-or-one
+
+  pub on-is : bitOn w k + bit w k * 2 ^ k ≡ w + 1 * 2 ^ k
+  on-is = ⊎-elim (λ z. rw (on-zero z) (rw z (omega arith))) (λ o. rw (on-one o) (rw o refl)) zero-or-one

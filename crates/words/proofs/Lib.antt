@@ -3,6 +3,7 @@ pub mod Says
 pub mod Codes
 pub mod Bits
 pub mod Sums
+pub mod Maps
 pub mod Lists
 pub mod Paste
 pub mod Zero

@@ -1,12 +1,13 @@
 -- Sums of f 0 .. f (n - 1), and the least number at which f is not 0. Assumes nothing.
-use Prim.Native.Nat.{ℕ, zero, suc, _+_, _≤_, _<_, suc-le-suc, _*_}
+use Prim.Native.Nat.{ℕ, zero, suc, _+_, _-_, _*_, _≤_, _<_, suc-le-suc}
 use mathlib.Core.Path.{_≡_, refl, sym, ap, ap₂, _∙_}
-use native.Mathlib.Nat.{zero-add, suc-add, add-suc, add-zero, zero-lt-suc, not-suc-le-zero, le-of-suc-le-suc, eq-or-lt-of-le}
+use native.Mathlib.Nat.{add-suc, add-zero, zero-lt-suc, not-suc-le-zero, le-of-suc-le-suc, eq-or-lt-of-le}
 use native.Mathlib.Omega.{arith}
 use lib.Count.{under}
 use native.Mathlib.Numerals.{add-one}
 use mathlib.Core.Logic.{⊎-elim}
 use Rattle.words.specs.Words.{sumBelow, leastBelow}
+use Rattle.words.proofs.Cases.{lt-or-ge}
 
 -- ---- sums
 pub sum-ext : (n : ℕ) (f g : ℕ → ℕ) → ((i : ℕ) → i < n → f i ≡ g i) → sumBelow n f ≡ sumBelow n g
@@ -57,9 +58,24 @@ unfolding sumBelow
 sum-bound zero c f e = omega arith
 sum-bound (suc n) c f e = omega (arith, sum-bound n c f e, e n)
 
+pub sum-const : (n c : ℕ) → sumBelow n (λ i. c) ≡ c * n
+unfolding sumBelow
+sum-const zero c = omega arith
+sum-const (suc n) c = omega (arith, sum-const n c)
+
+pub sum-zero : (n : ℕ) (f : ℕ → ℕ) → ((i : ℕ) → i < n → f i ≡ 0) → sumBelow n f ≡ 0
+sum-zero n f z = sum-ext n f (λ i. 0) z ∙ omega (arith, sum-const n 0)
+
+-- zero from n on
+pub sum-cut : (n m : ℕ) (f : ℕ → ℕ) → n ≤ m → ((i : ℕ) → n ≤ i → i < m → f i ≡ 0) → sumBelow m f ≡ sumBelow n f
+sum-cut n m f l z =
+    ap (λ (x : ℕ). sumBelow x f) {x = m} {y = n + (m - n)} (omega arith)
+    ∙ sum-add n (m - n) f
+    ∙ omega (arith, sum-zero (m - n) (λ i. f (n + i)) (λ i h. z (n + i) (omega arith) (omega arith)))
+
 -- zero everywhere but at p
 pub sum-point : (n p : ℕ) (f : ℕ → ℕ) → p < n → ((q : ℕ) → q < n → (q ≡ p → ⊥) → f q ≡ 0) → sumBelow n f ≡ f p
-sum-point n p f l e = omega (arith, sum-change n p f (λ q. 0) l e, sum-bound n 0 (λ q. 0) (λ q. omega arith))
+sum-point n p f l e = omega (arith, sum-change n p f (λ q. 0) l e, sum-const n 0)
 
 -- a sum is at least each of its parts
 pub sum-ge : (n p : ℕ) (f : ℕ → ℕ) → p < n → f p ≤ sumBelow n f
@@ -86,26 +102,35 @@ least-ext (suc n) f g h =
     ∙ ap₂ under (h 0 (zero-lt-suc n)) (least-ext n (λ i. f (suc i)) (λ i. g (suc i)) (λ i l. h (suc i) (suc-le-suc l)))
     ∙ sym (least-step n g)
 
--- none below a: the least below a + b is found in the next b
-pub least-on : (a b : ℕ) (f : ℕ → ℕ) → leastBelow a f ≡ a → leastBelow (a + b) f ≡ a + leastBelow b (λ i. f (a + i))
+-- below it f is 0, and at it, where it is below n, f is not
+pub least-below : (n : ℕ) (f : ℕ → ℕ) (q : ℕ) → q < leastBelow n f → f q ≡ 0
 unfolding leastBelow
-least-on zero b f e = simp zero-add
-least-on (suc a) b f e = rw (suc-add a b) (least-step (a + b) f ∙ go (f 0) (sym (least-step a f) ∙ e) (least-on a b (λ i. f (suc i))))
+least-below zero f q l = absurd (omega arith)
+least-below (suc n) f q l = go (f 0) refl q (rw least-step at l) (least-below n (λ i. f (suc i)))
   where
-    go : (x : ℕ) → under x (leastBelow a (λ i. f (suc i))) ≡ suc a
-        → (leastBelow a (λ i. f (suc i)) ≡ a → leastBelow (a + b) (λ i. f (suc i)) ≡ a + leastBelow b (λ i. f (suc (a + i))))
-        → under x (leastBelow (a + b) (λ i. f (suc i))) ≡ suc a + leastBelow b (λ i. f (suc a + i))
-    go zero q ih = simp suc-add (ap suc (ih (omega arith)))
-    go (suc x) q ih = absurd (omega arith)
+    go : (x : ℕ) → f 0 ≡ x → (q : ℕ) → q < under x (leastBelow n (λ i. f (suc i)))
+        → ((q : ℕ) → q < leastBelow n (λ i. f (suc i)) → f (suc q) ≡ 0) → f q ≡ 0
+    go zero e zero l ih = e
+    go zero e (suc q) l ih = ih q (omega arith)
+    go (suc x) e q l ih = absurd (omega arith)
 
--- found below a: what follows does not matter
-pub least-keep : (a b : ℕ) (f : ℕ → ℕ) → leastBelow a f < a → leastBelow (a + b) f ≡ leastBelow a f
+pub least-at : (n : ℕ) (f : ℕ → ℕ) → leastBelow n f < n → f (leastBelow n f) ≡ 0 → ⊥
 unfolding leastBelow
-least-keep zero b f l = absurd (omega arith)
-least-keep (suc a) b f l = rw (suc-add a b) (least-step (a + b) f ∙ go (f 0) (rw least-step at l) (least-keep a b (λ i. f (suc i))) ∙ sym (least-step a f))
+least-at zero f l = absurd (omega arith)
+least-at (suc n) f l = rw least-step (go (f 0) refl (rw least-step at l) (least-at n (λ i. f (suc i))))
   where
-    go : (x : ℕ) → under x (leastBelow a (λ i. f (suc i))) < suc a
-        → (leastBelow a (λ i. f (suc i)) < a → leastBelow (a + b) (λ i. f (suc i)) ≡ leastBelow a (λ i. f (suc i)))
-        → under x (leastBelow (a + b) (λ i. f (suc i))) ≡ under x (leastBelow a (λ i. f (suc i)))
-    go zero q ih = ap suc (ih (omega arith))
-    go (suc x) q ih = refl
+    go : (x : ℕ) → f 0 ≡ x → under x (leastBelow n (λ i. f (suc i))) < suc n
+        → (leastBelow n (λ i. f (suc i)) < n → f (suc (leastBelow n (λ i. f (suc i)))) ≡ 0 → ⊥) → f (under x (leastBelow n (λ i. f (suc i)))) ≡ 0 → ⊥
+    go zero e l ih = ih (omega arith)
+    go (suc x) e l ih = λ z. omega arith
+
+-- which settles it
+pub least-is : (n : ℕ) (f : ℕ → ℕ) (x : ℕ) → x < n → ((i : ℕ) → i < x → f i ≡ 0) → (f x ≡ 0 → ⊥) → leastBelow n f ≡ x
+least-is n f x l below at =
+    ⊎-elim (λ m. absurd (least-at n f (omega arith) (below (leastBelow n f) m)))
+    (λ m. ⊎-elim (λ h. absurd (at (least-below n f x h))) (λ h. omega arith) (lt-or-ge x (leastBelow n f))) (lt-or-ge (leastBelow n f) x)
+
+pub least-none : (n : ℕ) (f : ℕ → ℕ) → ((i : ℕ) → i < n → f i ≡ 0) → leastBelow n f ≡ n
+unfolding leastBelow
+least-none zero f z = refl
+least-none (suc n) f z = least-step n f ∙ ap₂ under (z 0 (omega arith)) (least-none n (λ i. f (suc i)) (λ i l. z (suc i) (omega arith)))

@@ -1,11 +1,11 @@
 -- From the lists that are lent to the views: what an accepted state gives, and what makes one. Assumes nothing.
-use Prim.Native.Nat.{ℕ, _+_, _*_, _/_, _%_, _≤_, _<_}
-use mathlib.Core.Path.{_≡_, sym, ap, _∙_}
+use Prim.Native.Nat.{ℕ, _+_, _*_, _≤_, _<_}
+use mathlib.Core.Path.{_≡_, sym, _∙_}
 use mathlib.Core.List.{List}
 use mathlib.Core.Logic.{⊎-elim}
 use native.Mathlib.Omega.{arith}
 use lib.ListN.{length}
-use Rattle.words.specs.Words.{recordWords, bit}
+use Rattle.words.specs.Words.{recordWords}
 use Rattle.words.proofs.Cases.{same-or}
 use Rattle.machine.specs.declared.Machine.{Machine}
 use Rattle.machine.specs.Machine.{mostPages, frameWords, headerWords, Insecure, mapWords, mapStart}
@@ -15,8 +15,7 @@ use Rattle.memory.specs.Memory.{frame, putWord}
 use Rattle.memory.proofs.Frames.{putWord-other}
 use Rattle.accept.specs.Accept.{Is, Tables, isFree, Runs, HeaderOk, Rules, Accepted}
 use Rattle.accept.proofs.Sums.{count-sum, measured-sum}
-use Rattle.kept.proofs.Facts.FreeMap.{map-bit}
-use Rattle.kept.proofs.Facts.Exact.{Exact}
+use Rattle.kept.proofs.Facts.Exact.{Exact, exact-says}
 
 -- ---- what an accepted state gives
 module _ {b : Machine} {M L : List ℕ} (ok : Accepted b M L) where
@@ -30,7 +29,7 @@ module _ {b : Machine} {M L : List ℕ} (ok : Accepted b M L) where
   -- and says whether it is free
   pub bit-says : (p : ℕ) → p < 32 * mapWords → mapBit L p ≡ isFree (b .pages) (rec L) p
   unfolding mapBit
-  bit-says p l = ap (λ (x : ℕ). bit x (p % 32)) (ok .rules .header .free-map (p / 32) (omega arith)) ∙ map-bit (b .pages) (rec L) p
+  bit-says = exact-says exact .1
 
   -- a page's record lies in the ledger, its frame and an insecure frame in the memory
   pub record-in : (p : ℕ) → p < b .pages → headerWords + recordWords * p + recordWords ≤ length L

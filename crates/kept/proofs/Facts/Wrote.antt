@@ -1,6 +1,6 @@
 -- A ledger that differs in the record of one page alone, and the effects that leave one such. Assumes nothing.
-use Prim.Native.Nat.{ℕ, _+_, _≤_, _<_}
-use mathlib.Core.Path.{_≡_, _∙_}
+use Prim.Native.Nat.{ℕ, _+_, _/_, _≤_, _<_}
+use mathlib.Core.Path.{_≡_, sym, _∙_}
 use mathlib.Core.List.{List}
 use native.Mathlib.Omega.{arith}
 use lib.ListN.{length}
@@ -12,8 +12,8 @@ use Rattle.ledger.specs.Ledger.{header, rec, put, puts, anew, gain, lose, putHa
 use Rattle.ledger.proofs.Views.{length-put, put-page, put-header, length-puts, puts-page, puts-header, length-anew, anew-other, anew-header}
 use Rattle.ledger.proofs.Effects.{length-gain, gain-header, gain-other, length-lose, lose-header, lose-other, length-putHash, putHash-page, putHash-header}
 use Rattle.accept.specs.Accept.{Runs, HeaderOk, Accepted}
-use Rattle.kept.proofs.Facts.FreeMap.{map-used}
-use Rattle.kept.proofs.Facts.Exact.{Exact}
+use Rattle.accept.proofs.FreeMap.{in-use}
+use Rattle.kept.proofs.Facts.Exact.{Exact, exact-says, exact-but}
 use Rattle.kept.proofs.Facts.Bridge.{exact, header-kept}
 
 pub record Wrote (L L' : List ℕ) (p : ℕ) : Type 0 where
@@ -51,13 +51,14 @@ wrote-then x y =
 -- ---- page p was in use and is
 pub wrote-exact : {n : ℕ} {L L' : List ℕ} {p : ℕ} → Exact n L → Wrote L L' p → p < n → (rec L p 0 ≡ free → ⊥) → (rec L' p 0 ≡ free → ⊥) → Exact n L'
 wrote-exact {n} {L} {L'} {p} ex x pl used used' =
-    record {
-      few = ex .few;
-      size = x .size ∙ ex .size;
-      map = λ j l.
-          x .head (mapStart + j) (omega arith) ∙ ex .map j l
-          ∙ map-used n (rec L) (rec L') p (λ q ql n. x .others q n 0 (omega arith)) pl used used' j;
-    }
+    let (fit, says) = exact-says ex in
+    exact-but ex p pl (x .size)
+    (record {
+      fit = λ j l. rw (x .head (mapStart + j) (omega arith)) (fit j l);
+      here = rw (x .head (mapStart + p / 32) (omega (arith, ex .few))) (says p (omega (arith, ex .few)) ∙ sym (in-use n (rec L) p pl used));
+      others = λ q l _. rw (x .head (mapStart + q / 32) (omega arith));
+    })
+    (in-use n (rec L') p pl used') (λ q ql n. x .others q n 0 (omega arith))
 
 pub wrote-header : {b : Machine} {M L L' : List ℕ} {p : ℕ} → Accepted b M L → Wrote L L' p → p < b .pages
     → (rec L p 0 ≡ free → ⊥) → (rec L' p 0 ≡ free → ⊥) → ((t : ℕ) → Runs b (rec L) t → Runs b (rec L') t) → HeaderOk b (header L') (rec L')

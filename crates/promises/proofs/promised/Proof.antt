@@ -28,6 +28,7 @@ use Rattle.promises.proofs.Kept.{every-record-keeps, every-batch-keeps,
 use Rattle.promises.proofs.Access.{load-touches-one-word, store-touches-one-word, access-tells-no-more, reached-alone, reached-alone-always}
 use Rattle.promises.proofs.Shut.{monitor-frames-stay, monitor-frames-unread, others-pages-stay, remove-zeroes-alone}
 use Rattle.promises.proofs.Images.{images-are-settled, images-eighteen-exactly-when, images-refuse-alone, progress-tells, blocks-are-laid-down, checks-are-seen, first-block-of-box-a}
+use Rattle.promises.proofs.Maps.{maps-of-any-size, map-of-the-ledger}
 use Rattle.promises.proofs.Older.{old-images-are-refused, old-ledgers-are-refused}
 use Rattle.promises.proofs.Restored.{image-yes, first-bad-block, image-round-trip, acceptance-reads-secure-alone, restored-holds}
 use Rattle.promises.proofs.promised.Statement.{statement}
@@ -122,6 +123,8 @@ returns c =
       image-round-trip = image-round-trip;
       acceptance-reads-secure-alone = acceptance-reads-secure-alone;
       restored = restored-holds;
+      maps-of-any-size = maps-of-any-size;
+      map-of-the-ledger = map-of-the-ledger;
       old-images-are-refused = old-images-are-refused;
       old-ledgers-are-refused = old-ledgers-are-refused;
     }
