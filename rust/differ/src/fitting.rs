@@ -7,7 +7,8 @@ use crate::twins::Twins;
 use crate::{images, Outcome};
 use second::cases::BOX_A;
 use second::layout::{
-    FRAME_WORDS, HASH_WORDS, HEADER_WORDS, MOST_CALLS, MOST_FRAMES, MOST_PAGES, RECORD_WORDS,
+    free_bit, FRAME_WORDS, HASH_WORDS, HEADER_WORDS, MOST_CALLS, MOST_FRAMES, MOST_PAGES,
+    RECORD_WORDS,
 };
 use second::random::{fresh, unfit_machines, Rng};
 use second::{Machine, UNFIT};
@@ -27,8 +28,11 @@ pub fn ill_fitting(
     tally: &mut Tally,
 ) -> Outcome {
     let by_turns = |machines: &[Machine]| machines[seed as usize % machines.len()];
-    let unfit = by_turns(&unfit_machines());
-    for machine in [unfit, by_turns(&BOUNDARY), near_the_limits(rng)] {
+    let mut unfit = unfit_machines();
+    unfit.retain(|machine| machine.frames != MOST_FRAMES + 1);
+    let dear = LARGEST.get((seed % 128).wrapping_sub(40) as usize).copied();
+    let machines = [by_turns(&unfit), by_turns(&BOUNDARY), near_the_limits(rng)];
+    for machine in machines.into_iter().chain(dear) {
         let lent = as_if_fitting(rng, machine);
         all_services(services, rng, machine, lent, tally)?;
     }
@@ -42,13 +46,11 @@ const fn machine(frames: u32, secure: u32, pages: u32, monitor: u32, monitors: u
 
 /// Each breaks one rule by one, or just does not; lists can be had as long as
 /// the numbers say, so that nothing but the numbers is at fault.
-const BOUNDARY: [Machine; 18] = [
+const BOUNDARY: [Machine; 16] = [
     machine(0, 0, 1, 0, 1),
     machine(1, 0, 1, 0, 1),
     machine(1, 0, 1, 1, 1),
     machine(2, 0, 1, 1, 1),
-    machine(MOST_FRAMES, MOST_FRAMES - 1, 1, MOST_FRAMES - 2, 1),
-    machine(MOST_FRAMES + 1, 0, 1, 1, 1),
     machine(16, 6, 0, 0, 2),
     machine(16, 6, 1, 0, 2),
     machine(MOST_PAGES + 4, 4, MOST_PAGES, 0, 4),
@@ -61,6 +63,12 @@ const BOUNDARY: [Machine; 18] = [
     machine(16, 6, 8, 14, 3),
     machine(16, 6, 8, 13, 1),
     machine(16, 6, 8, 5, 2),
+];
+
+/// The same of F: lists of 64 MB, so that each has its turn seldom.
+const LARGEST: [Machine; 2] = [
+    machine(MOST_FRAMES, MOST_FRAMES - 1, 1, MOST_FRAMES - 2, 1),
+    machine(MOST_FRAMES + 1, 0, 1, 1, 1),
 ];
 
 /// Numbers at the ends of their ranges, and sums that wrap in 32 bits.
@@ -80,17 +88,35 @@ fn near_the_limits(rng: &mut Rng) -> Machine {
 
 /// Lists as long as the numbers ask, where such lists can be had.
 fn as_if_fitting(rng: &mut Rng, machine: Machine) -> Lent {
-    let (memory, ledger) = if machine.fits() {
-        fresh(rng, machine)
-    } else {
-        let frames = machine.frames.min(MOST_FRAMES + 1) as usize;
-        let pages = machine.pages.min(MOST_PAGES + 1) as usize;
-        let memory = random_words(rng, FRAME_WORDS * frames);
-        (memory, random_words(rng, HEADER_WORDS + RECORD_WORDS * pages))
+    let (memory, ledger) = match machine.frames {
+        MOST_FRAMES.. => as_if_fresh(rng, machine),
+        _ if machine.fits() => fresh(rng, machine),
+        _ if machine.pages > MOST_PAGES || rng.once_in(2) => as_if_fresh(rng, machine),
+        frames => {
+            let pages = machine.pages.min(MOST_PAGES + 1) as usize;
+            let memory = random_words(rng, FRAME_WORDS * frames as usize);
+            (memory, random_words(rng, HEADER_WORDS + RECORD_WORDS * pages))
+        }
     };
     let key = random_words(rng, HASH_WORDS);
     let calls = vec![1; RECORD_WORDS * rng.below(2) as usize];
     Lent::new(rng, &key, &memory, &ledger, &calls)
+}
+
+/// What Boot would leave, were the numbers in order: only they are at fault then.
+fn as_if_fresh(rng: &mut Rng, machine: Machine) -> (Vec<u32>, Vec<u32>) {
+    let frames = if machine.frames <= MOST_FRAMES + 1 { machine.frames } else { 1 };
+    let pages = machine.pages.min(MOST_PAGES + 1) as usize;
+    let mut memory = vec![rng.word(); FRAME_WORDS * frames as usize];
+    let first = (machine.secure as usize).saturating_mul(FRAME_WORDS);
+    let secure = memory.iter_mut().skip(first).take(FRAME_WORDS * pages);
+    secure.for_each(|word| *word = 0);
+    let mut ledger = vec![0; HEADER_WORDS + RECORD_WORDS * pages];
+    for page in 0..pages {
+        let (word, bit) = free_bit(page);
+        ledger[word] |= bit;
+    }
+    (memory, ledger)
 }
 
 /// All services on these words, whatever they say.

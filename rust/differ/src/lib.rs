@@ -9,6 +9,7 @@ pub mod fitting;
 pub mod hashes;
 pub mod images;
 pub mod lent;
+pub mod old;
 pub mod services;
 pub mod shift;
 pub mod tally;
@@ -21,9 +22,9 @@ use tally::Tally;
 /// What a round says: nothing, or how the two differ.
 pub type Outcome = Result<(), String>;
 
-/// One round: a shift on a random or a boundary machine with damage between,
-/// then images of its last state and of another, then numbers and lengths that
-/// do not fit. Ends at the first difference.
+/// One round: a shift on a random or a boundary machine with damage and old
+/// ledgers between, then images of its last state and of another, then numbers
+/// and lengths that do not fit. Ends at the first difference.
 pub fn round(services: &dyn Services, seed: u64, tally: &mut Tally) -> Outcome {
     let rng = &mut Rng::new(seed);
     let found = shift::on_a_machine(services, rng, seed, tally)

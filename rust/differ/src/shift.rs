@@ -4,9 +4,11 @@ use crate::lent::{random_words, Lent};
 use crate::services::Services;
 use crate::tally::Tally;
 use crate::twins::Twins;
-use crate::{expect, Outcome};
+use crate::{expect, old, Outcome};
+use second::calls::number::{ALLOC_SPARE, FREE_PAGES, INIT_ADDR_SPACE};
 use second::layout::{HASH_WORDS, MOST_CALLS, RECORD_WORDS};
-use second::random::{damage, limit_machines, outsider, random_machine, Rng};
+use second::random::{damage, largest_machines, limit_machines, outsider, random_machine, Rng};
+use second::shift::record;
 use second::{Machine, DONE, UNFIT};
 
 /// How much is done on a machine: its cost goes with its frames.
@@ -16,18 +18,24 @@ struct Plan {
     damages: u32,
 }
 
-/// Frames from which on a machine is large.
+/// Frames from which on a machine is large, and from which on all is costly.
 const LARGE: u32 = 64;
+const LARGEST: u32 = 4096;
 
-/// Every so often a boundary machine, by the seed so that each has its turn.
+/// Every so often a boundary machine, by the seed so that each has its turn;
+/// seldom one of the most frames.
 fn plan(rng: &mut Rng, seed: u64) -> Plan {
-    let limits = limit_machines();
-    let place = (seed / 8) as usize % limits.len();
-    let machine = if seed % 8 == 7 { limits[place] } else { random_machine(rng) };
+    let by_turns = |machines: &[Machine], turn: u64| machines[turn as usize % machines.len()];
+    let machine = match (seed % 128, seed % 8) {
+        (34, _) => by_turns(&largest_machines(), seed / 128),
+        (_, 7) => by_turns(&limit_machines(), seed / 8),
+        _ => random_machine(rng),
+    };
     match machine.frames {
         0..LARGE => Plan { machine, batches: 260, damages: 60 },
         LARGE..1000 => Plan { machine, batches: 40, damages: 12 },
-        _ => Plan { machine, batches: 6, damages: 3 },
+        1000..LARGEST => Plan { machine, batches: 6, damages: 3 },
+        _ => Plan { machine, batches: 2, damages: 1 },
     }
 }
 
@@ -40,6 +48,12 @@ pub fn on_a_machine<'s>(
 ) -> Result<Twins<'s>, String> {
     let Plan { machine, batches, damages } = plan(rng, seed);
     let mut twins = booted(services, rng, machine, tally)?;
+    tally.shifts.insert(machine.pages);
+    old::lent(rng, &mut twins, tally)?;
+    // Mostly where few calls are made, which would not fill the box.
+    if machine.pages > u32::BITS && rng.once_in(4) == (machine.frames < LARGE) {
+        crowded(rng, &mut twins, tally)?;
+    }
     for turn in 0..batches {
         outsiders(rng, &mut twins);
         let records = records(rng, seed, turn);
@@ -51,8 +65,26 @@ pub fn on_a_machine<'s>(
         if turn * damages / batches != (turn + 1) * damages / batches {
             damaged(rng, &mut twins, tally)?;
         }
+        if turn % 16 == 15 {
+            old::lent(rng, &mut twins, tally)?;
+        }
     }
     Ok(twins)
+}
+
+/// One space takes every page before the last word of the free map.
+fn crowded(rng: &mut Rng, twins: &mut Twins, tally: &mut Tally) -> Outcome {
+    let bits = u32::BITS;
+    let last = (twins.machine.pages - 1) / bits * bits;
+    let spares = (2..last).map(|page| record(&[ALLOC_SPARE, 0, page]));
+    let calls: Vec<_> = std::iter::once(record(&[INIT_ADDR_SPACE, 0, 1]))
+        .chain(spares)
+        .chain([record(&[FREE_PAGES])])
+        .collect();
+    for part in calls.chunks(MOST_CALLS) {
+        expect(twins.batch(rng, &part.concat(), tally)?, DONE)?;
+    }
+    Ok(())
 }
 
 /// Boot on words drawn by chance.

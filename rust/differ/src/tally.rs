@@ -1,8 +1,10 @@
 //! What a run has tried so far.
 
-use crate::images;
+use crate::{images, old};
+use second::calls::number::FREE_PAGES;
 use second::layout::{MOST_CALLS, MOST_FRAMES, MOST_PAGES, RECORD_WORDS};
 use second::random::Coverage;
+use second::DONE;
 use std::collections::{BTreeMap, BTreeSet};
 use std::fmt;
 
@@ -27,6 +29,12 @@ pub struct Tally {
     pub pages: BTreeSet<u32>,
     /// How many words the call lists had.
     pub lengths: BTreeSet<usize>,
+    /// n of the machines that shifts were on.
+    pub shifts: BTreeSet<u32>,
+    /// Words of the free map that FreePages found the lowest page in.
+    pub lowest: BTreeSet<u32>,
+    /// What was tried of old ledgers.
+    old: BTreeMap<&'static str, u64>,
     /// Answer codes by call.
     pub coverage: Coverage,
     /// Saved images.
@@ -37,6 +45,8 @@ pub struct Tally {
 const FRAMES: [u32; 6] = [0, 1, 2, MOST_FRAMES, MOST_FRAMES + 1, u32::MAX];
 const PAGES: [u32; 6] = [0, 1, 2, MOST_PAGES, MOST_PAGES + 1, u32::MAX];
 const BATCHES: [usize; 3] = [0, 1, MOST_CALLS];
+const SHIFTS: [u32; 6] = [1, 8, 33, 257, MOST_PAGES - 1, MOST_PAGES];
+const LOWEST: [u32; 4] = [0, 1, 8, 31];
 const LENGTHS: [usize; 8] = [
     1,
     RECORD_WORDS - 1,
@@ -71,8 +81,16 @@ impl Tally {
         {
             self.coverage.note(call, answer);
             self.calls += 1;
+            if call[0] == FREE_PAGES && answer[0] == DONE && answer[1] > 0 {
+                self.lowest.insert(answer[2] / u32::BITS);
+            }
         }
         *self.batches.entry(calls.len() / RECORD_WORDS).or_default() += 1;
+    }
+
+    /// Counts what was tried of old ledgers.
+    pub fn met(&mut self, what: &'static str) {
+        *self.old.entry(what).or_default() += 1;
     }
 
     /// What a whole run must have met and has not, or has and must not.
@@ -81,6 +99,7 @@ impl Tally {
         let strange = self.coverage.strange().into_iter().map(pairs);
         let strange = strange.map(|pair| format!("no {pair}"));
         let batches = self.batches.keys().copied().collect();
+        let old = self.old.keys().copied().collect();
         [
             self.coverage.missing().into_iter().map(pairs).collect(),
             strange.collect(),
@@ -88,6 +107,9 @@ impl Tally {
             absent("n of", &PAGES, &self.pages),
             absent("records in a batch:", &BATCHES, &batches),
             absent("words in a call list:", &LENGTHS, &self.lengths),
+            absent("a shift with n of", &SHIFTS, &self.shifts),
+            absent("the lowest free page in word", &LOWEST, &self.lowest),
+            absent("ledgers:", &old::met::ALL, &old),
             self.images.missing(),
         ]
         .concat()
@@ -97,6 +119,9 @@ impl Tally {
 impl fmt::Display for Tally {
     fn fmt(&self, out: &mut fmt::Formatter) -> fmt::Result {
         write!(out, "{}{}", self.coverage, self.images)?;
+        for (what, count) in &self.old {
+            writeln!(out, "  {what}: {count}")?;
+        }
         let [refused, accepted] = self.damaged;
         let all: u64 = self.batches.values().sum();
         let of = |size: usize| self.batches.get(&size).copied().unwrap_or(0);
@@ -111,6 +136,12 @@ impl fmt::Display for Tally {
             "{} boots, {} damaged states ({refused} refused, {accepted} accepted)",
             self.boots,
             self.all_damaged()
+        )?;
+        writeln!(
+            out,
+            "shifts with n{}; lowest free pages in words{} of the map",
+            met(&SHIFTS, &self.shifts),
+            met(&LOWEST, &self.lowest)
         )?;
         write!(
             out,

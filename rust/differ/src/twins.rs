@@ -5,7 +5,7 @@ use crate::lent::{random_words, Lent, NAMES};
 use crate::services::{Second, Services};
 use crate::tally::Tally;
 use crate::Outcome;
-use second::layout::RECORD_WORDS;
+use second::layout::{HEADER_WORDS, RECORD_WORDS};
 use second::random::{next_call, Rng, View};
 use second::{Machine, DONE};
 use std::mem::take;
@@ -36,6 +36,11 @@ impl<'s> Twins<'s> {
     pub fn view(&self) -> View<'_> {
         let (memory, ledger) = (self.theirs.memory.words(), self.theirs.ledger.words());
         View { machine: self.machine, memory, ledger }
+    }
+
+    /// Whether all pages are free.
+    pub fn is_fresh(&self) -> bool {
+        self.theirs.ledger.words()[HEADER_WORDS..].iter().all(|word| *word == 0)
     }
 
     /// Changes the words of both in the same way.

@@ -1,47 +1,22 @@
 //! Wrong readings of saved images, each with one flaw, are told from the second
 //! program.
 
+#[macro_use]
 mod wrong_images;
 
-use differ::images::saved;
 use differ::images::stream::{mend, set, word, CHECK};
 use differ::round;
 use differ::tally::Tally;
-use second::cases::BOX_A;
 use second::crc::crc32;
-use second::layout::{BLOCK_BYTES, CHECKED_BYTES, FRAME_WORDS, PAYLOAD_WORDS, RUNNING};
-use second::random::{fresh, Rng, View};
-use second::shift::record;
+use second::layout::{BLOCK_BYTES, CHECKED_BYTES, FRAME_WORDS, PAYLOAD_WORDS, RUNNING, TOTAL_FROM};
 use second::{
-    accepts, batch, image_blocks, image_end, image_read, image_write, Machine, BAD_BLOCK, DONE,
+    accepts, image_blocks, image_end, image_read, image_write, Machine, BAD_BLOCK, DONE,
     NOT_ACCEPTED, UNFIT,
 };
 use wrong_images::{
-    amended, blocks, end, image, is_whole, payload, read, refill, rewritten, secure, spoiled,
-    store, with_check, write, Wrong, RIGHT,
+    amended, blocks, difference, end, image, is_whole, just_now, payload, read, refill, rewritten,
+    secure, spoiled, store, told_apart, with_check, write, Wrong, RIGHT,
 };
-
-/// The first difference in that part of so many rounds which saves images. Box A
-/// has a running thread there.
-fn difference(images: &Wrong, rounds: u64) -> Option<String> {
-    let mut tally = Tally::default();
-    (0..rounds).find_map(|seed| {
-        let rng = &mut Rng::new(seed);
-        let (mut memory, mut ledger) = fresh(rng, BOX_A);
-        let calls = [&[2, 0, 1][..], &[3, 0, 2, 4096], &[8, 0], &[9, 2]].map(record).concat();
-        let answers = &mut vec![0; calls.len()];
-        assert_eq!(batch(BOX_A, &mut memory, &mut ledger, &calls, answers), DONE);
-        let state = View { machine: BOX_A, memory: &memory, ledger: &ledger };
-        let found = saved(images, rng, seed, state, &mut tally.images).err();
-        found.map(|what| format!("seed {seed}: {what}"))
-    })
-}
-
-fn told_apart(name: &str, flaw: Wrong) {
-    let found = difference(&flaw, 120);
-    println!("{name}: {}", found.as_deref().unwrap_or("NOT FOUND"));
-    assert!(found.is_some(), "{name}");
-}
 
 #[test]
 fn the_right_reading_is_not_told_apart() {
@@ -99,18 +74,6 @@ fn wrong_checks() {
     checks!("of nothing", |_| 0);
 }
 
-/// A writer that changes what it has written.
-macro_rules! writes {
-    ($name:literal, $change:expr) => {
-        told_apart(
-            $name,
-            write(|m, mem, led, number, index, block| {
-                rewritten(m, (mem, led), (number, index), block, $change)
-            }),
-        )
-    };
-}
-
 #[test]
 fn wrong_writers() {
     writes!("counts the blocks from 1", |_, _, index, block| {
@@ -118,7 +81,7 @@ fn wrong_writers() {
         mend(block);
     });
     writes!("writes one block more where none is needed", |m, _, _, block| {
-        set(block, 2, (words(m) / PAYLOAD_WORDS) as u32 + 1);
+        set(block, 2, (words(m) / PAYLOAD_WORDS) as u32 + 1 + TOTAL_FROM);
         mend(block);
     });
     writes!("writes no number", |_, _, _, block| {
@@ -241,25 +204,8 @@ fn wrong_totals() {
     told_apart("says 18 where the numbers do not fit", blocks(|m| image_blocks(m).max(UNFIT)));
     told_apart(
         "counts whether the numbers fit or not",
-        blocks(|m| (32 + 1056 * u64::from(m.pages)).div_ceil(124) as u32),
+        blocks(|m| (64 + 1056 * u64::from(m.pages)).div_ceil(124) as u32),
     );
-}
-
-/// A reader that sees another block than it is lent.
-macro_rules! sees {
-    ($name:literal, $amend:expr) => {
-        told_apart(
-            $name,
-            read(|m, mem, led, progress, block| {
-                let amend: fn(Machine, &[u32], &[u8]) -> Vec<u8> = $amend;
-                let seen = match progress.len() {
-                    4 => amend(m, progress, block),
-                    _ => block.to_vec(),
-                };
-                image_read(m, mem, led, progress, &seen)
-            }),
-        )
-    };
 }
 
 /// How many words of fill the block has that is to come next.
@@ -321,12 +267,12 @@ fn wrong_looks_at_the_number_and_total() {
         }
     });
     sees!("does not compare the total", |m, _, block| {
-        amended(block, |block| set(block, 2, image_blocks(m)))
+        amended(block, |block| set(block, 2, image_blocks(m) + TOTAL_FROM))
     });
     sees!("compares the total's low half alone", |m, _, block| {
         amended(block, |block| {
             if word(block, 2) & 0xffff == image_blocks(m) {
-                set(block, 2, image_blocks(m));
+                set(block, 2, image_blocks(m) + TOTAL_FROM);
             }
         })
     });
@@ -358,28 +304,6 @@ fn wrong_looks_at_the_bytes() {
         }
         block
     });
-}
-
-/// A reader that does something after the rules' reader has answered: it is
-/// given that answer, the lent lists and the progress before.
-macro_rules! after_reading {
-    ($name:literal, $after:expr) => {
-        told_apart(
-            $name,
-            read(|m, mem, led, progress, block| {
-                type After<'a> = (Machine, &'a mut [u32], &'a mut [u32], &'a mut [u32]);
-                let after: fn(u32, After, &[u32], &[u8]) -> u32 = $after;
-                let before = progress.to_vec();
-                let code = image_read(m, mem, led, progress, block);
-                after(code, (m, mem, led, progress), &before, block)
-            }),
-        )
-    };
-}
-
-/// Whether a reading that was good has met this answer just now.
-fn just_now(code: u32, answer: u32, before: &[u32]) -> bool {
-    code == answer && before.first() == Some(&0)
 }
 
 #[test]
@@ -549,7 +473,7 @@ fn wrong_blocks_after_the_last() {
         "takes one block more",
         read(|m, mem, led, progress, block| {
             let total = image_blocks(m);
-            let expected = [progress.get(2).copied().unwrap_or(0), total, total];
+            let expected = [progress.get(2).copied().unwrap_or(0), total, total + TOTAL_FROM];
             let more = progress.len() == 4 && progress[..2] == [0, total] && is_whole(block);
             let code = image_read(m, mem, led, progress, block);
             if code == BAD_BLOCK && more && [0, 1, 2].map(|place| word(block, place)) == expected {

@@ -3,9 +3,11 @@
 //! spare then.
 
 use differ::images::stream::{mend, set, word};
+use differ::old;
 use differ::services::{Proved, Second, Services};
 use second::cases::{BOX_A, KEY};
 use second::layout::{record_of, BLOCK_BYTES, FRAME_WORDS, PROGRESS_WORDS, RECORD_WORDS};
+use second::random::View;
 use second::shift::record;
 use second::{Machine, BAD_BLOCK, DONE, NOT_ACCEPTED, UNFIT};
 
@@ -127,7 +129,7 @@ fn bad_at(by: &dyn Services, name: &str, stream: &[Vec<u8>], place: u32) {
     let (code, spare) = Bench::reads(by, BOX_A, stream);
     assert_eq!((code, spare.progress[0], spare.progress[1]), (25, 25, place), "{name}");
     let words = 124 * place as usize;
-    let ledger = words.min(288);
+    let ledger = words.min(320);
     assert_eq!(spare.payload(), (ledger, (words - ledger).min(8192)), "{name}");
 }
 
@@ -141,22 +143,22 @@ fn the_first_block() {
     for by in SIDES {
         let block = &Bench::booted(by, BOX_A).image(7)[0];
         let words: Vec<u32> = (0..128).map(|place| word(block, place)).collect();
-        let head = [7, 0, 69, 0, 1, 2, 3, 4, 5, 6, 7, 8, 255];
+        let head = [7, 0, 69 + 65_536, 0, 1, 2, 3, 4, 5, 6, 7, 8, 255];
         assert_eq!(words[..13], head);
         assert!(words[13..127].iter().all(|word| *word == 0));
-        assert_eq!(words[127], 0x3685_ad66);
-        assert_eq!(block[508..], [0x66, 0xad, 0x85, 0x36]);
+        assert_eq!(words[127], 0xbbde_2a8e);
+        assert_eq!(block[508..], [0x8e, 0x2a, 0xde, 0xbb]);
     }
 }
 
 #[test]
 fn totals() {
     for by in SIDES {
-        for (pages, total) in [(1, 9), (8, 69), (15, 128), (256, 2181)] {
+        for (pages, total) in [(1, 10), (8, 69), (15, 129), (30, 256), (256, 2181), (1024, 8722)] {
             assert_eq!(by.images().blocks(with_pages(pages)), total);
         }
         assert_eq!(by.images().blocks(with_pages(0)), 0);
-        assert_eq!(by.images().blocks(with_pages(257)), 0);
+        assert_eq!(by.images().blocks(with_pages(1025)), 0);
     }
 }
 
@@ -188,13 +190,13 @@ fn read_whole() {
 #[test]
 fn boxes_of_other_sizes() {
     for by in SIDES {
-        for pages in [1, 15, 256] {
+        for pages in [1, 15, 30, 256, 1024] {
             let state = Bench::booted(by, with_pages(pages));
             let mut stream = state.image(u32::MAX);
             let (code, spare) = Bench::reads(by, with_pages(pages), &stream);
             assert!(code == DONE && spare.is(&state), "{pages}");
             let pages = pages as usize;
-            assert_eq!(spare.payload(), (32 + 32 * pages, 1024 * pages));
+            assert_eq!(spare.payload(), (64 + 32 * pages, 1024 * pages));
             stream.pop();
             let (code, spare) = Bench::reads(by, with_pages(pages as u32), &stream);
             assert_eq!((code, spare.progress[1] as usize), (25, stream.len()), "{pages}");
@@ -206,14 +208,14 @@ fn boxes_of_other_sizes() {
 #[test]
 fn every_word_is_read() {
     for by in SIDES {
-        for pages in [1, 8, 15, 256] {
+        for pages in [1, 8, 15, 30, 256, 1024] {
             let mut state = Bench::booted(by, with_pages(pages));
             let words = state.ledger.iter_mut().chain(&mut state.memory);
             words.zip(1..).for_each(|(word, number)| *word = number);
             let (code, spare) = Bench::reads(by, with_pages(pages), &state.image(0));
             assert!(code == NOT_ACCEPTED && spare.is(&state), "{pages}");
             let pages = pages as usize;
-            assert_eq!(spare.payload(), (32 + 32 * pages, 1024 * pages));
+            assert_eq!(spare.payload(), (64 + 32 * pages, 1024 * pages));
         }
     }
 }
@@ -241,7 +243,7 @@ fn too_few_too_many_or_out_of_order() {
         bad_at(by, "none", &[], 0);
         bad_at(by, "68", &stream[..68], 68);
         let (_, spare) = Bench::reads(by, BOX_A, &stream[..68]);
-        assert_eq!(spare.payload(), (288, 8144));
+        assert_eq!(spare.payload(), (320, 8112));
         bad_at(by, "block 0 twice", &[stream[0].clone(), stream[0].clone()], 1);
         bad_at(by, "block 0 missing", &stream[1..], 0);
         let mut swapped = stream.clone();
@@ -273,17 +275,18 @@ fn changed_blocks() {
             ("a check stored big-endian", |block| block[508..].reverse()),
             ("another number", |block| set(block, 0, 8)),
             ("another index", |block| set(block, 1, 67)),
-            ("another total", |block| set(block, 2, 70)),
+            ("another total", |block| set(block, 2, 70 + 65_536)),
             ("a shorter block", |block| block.truncate(511)),
             ("a longer block", |block| block.push(0)),
         ];
         for (name, change) in words {
             [0, 1, 68].iter().for_each(|place| bad_at(by, name, &with(*place, change), *place));
         }
-        let right: [fn(&mut Vec<u8>); 4] = [
+        let right: [fn(&mut Vec<u8>); 5] = [
             |block| set(block, 0, 8),
             |block| set(block, 1, 67),
-            |block| set(block, 2, 70),
+            |block| set(block, 2, 69),
+            |block| set(block, 2, 70 + 65_536),
             |block| set(block, 126, 1 << 31),
         ];
         for change in right {
@@ -291,6 +294,28 @@ fn changed_blocks() {
             mend(&mut other[68]);
             bad_at(by, "the check right", &other, 68);
         }
+    }
+}
+
+/// An image of an older monitor, whose header had 32 words and whose word 2 was
+/// the total alone: refused at block 0, nothing written.
+#[test]
+fn an_old_image() {
+    for by in SIDES {
+        let state = Bench::booted(by, BOX_A);
+        let view = View { machine: BOX_A, memory: &state.memory, ledger: &state.ledger };
+        let old: Vec<_> = old::blocks(view, 7).collect();
+        assert_eq!((old.len(), word(&old[0], 2), word(&old[0], 127)), (69, 69, 0x3685_ad66));
+        bad_at(by, "old", &old, 0);
+        let mut plain = state.image(7);
+        for block in &mut plain {
+            set(block, 2, 69);
+            mend(block);
+        }
+        bad_at(by, "the total alone", &plain, 0);
+        let mut spare = Bench::spare(by, BOX_A);
+        assert_eq!((spare.read(&old[0]), &spare.progress[..]), (25, &[25, 0, 0, 0][..]));
+        assert_eq!(spare.payload(), (0, 0));
     }
 }
 

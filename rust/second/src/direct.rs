@@ -3,14 +3,11 @@
 //! against; it must always agree with [`crate::accepts`].
 
 use crate::layout::{
-    free_bit, kind, record_of, state, word, Record, DATA_BLOCKS, FLAG_BITS, HEADER_WORDS, MAP_END,
-    MOST_PAGES, MOST_TABLES, RUNNING,
+    free_bit, kind, record_of, state, word, Record, DATA_BLOCKS, FLAG_BITS, HEADER_WORDS,
+    MOST_TABLES, RUNNING,
 };
 use crate::machine::Machine;
 use crate::mapping::{Leaf, Mapping, ADDRESSES, EXECUTE, WORD_BYTES};
-
-/// A tally for each page that could be a space.
-type Tallies = [Tally; MOST_PAGES as usize];
 
 /// What a pass over the records counts for each address space.
 #[derive(Clone, Copy, Default)]
@@ -41,7 +38,8 @@ pub fn accepts(m: Machine, mem: &[u32], led: &[u32]) -> bool {
         return false;
     }
     let words = Words { machine: m, memory: mem, ledger: led };
-    let mut tallies: Tallies = [Tally::default(); MOST_PAGES as usize];
+    // A tally for each page, which could be a space.
+    let mut tallies = vec![Tally::default(); m.page_count()];
     words.header()
         && (0..m.page_count()).all(|page| words.page(page, &mut tallies))
         && (0..m.page_count()).all(|page| words.space(page, &tallies[page]))
@@ -65,11 +63,12 @@ impl<'a> Words<'a> {
         (owner[word::TYPE] == kind::SPACE).then_some(owner)
     }
 
-    /// The header's own words; its free bits are compared page by page.
+    /// The header's own words; its free bits are compared page by page. From
+    /// the bit of number n on all is zero, to the header's end.
     fn header(&self) -> bool {
-        let mut beyond = self.machine.page_count()..MOST_PAGES as usize;
-        beyond.all(|page| !self.is_free(page))
-            && zero(&self.ledger[MAP_END..HEADER_WORDS])
+        let (word, bit) = free_bit(self.machine.page_count());
+        self.ledger[word] < bit
+            && zero(&self.ledger[word + 1..HEADER_WORDS])
             && (self.ledger[RUNNING] == 0 || self.running())
     }
 
@@ -90,7 +89,7 @@ impl<'a> Words<'a> {
     }
 
     /// One page: its record, its memory and its owner's tally.
-    fn page(&self, page: usize, tallies: &mut Tallies) -> bool {
+    fn page(&self, page: usize, tallies: &mut [Tally]) -> bool {
         let record = self.record(page);
         if self.is_free(page) != (record[word::TYPE] == kind::FREE) {
             return false;

@@ -4,7 +4,7 @@
 use crate::accept::{accepted, fitting};
 use crate::crc::crc32;
 use crate::layout::{
-    BLOCK_BYTES, BLOCK_HEAD, CHECKED_BYTES, FRAME_WORDS, PAYLOAD_WORDS, PROGRESS_WORDS,
+    BLOCK_BYTES, BLOCK_HEAD, CHECKED_BYTES, FRAME_WORDS, PAYLOAD_WORDS, PROGRESS_WORDS, TOTAL_FROM,
 };
 use crate::machine::Machine;
 use crate::service::{DONE, UNFIT};
@@ -45,7 +45,7 @@ pub fn image_write(
             Place::Fill => 0,
         };
     }
-    *bytes = Block { number, index, total: blocks(m), payload }.encode();
+    *bytes = Block { number, index, total: total_word(m), payload }.encode();
     DONE
 }
 
@@ -103,6 +103,11 @@ fn blocks(m: Machine) -> u32 {
     image_words(m).div_ceil(PAYLOAD_WORDS) as u32
 }
 
+/// The word by which each block says how many there are.
+fn total_word(m: Machine) -> u32 {
+    blocks(m) + TOTAL_FROM
+}
+
 /// Where a word of a payload belongs.
 #[derive(Clone, Copy)]
 enum Place {
@@ -126,6 +131,7 @@ fn places(m: Machine, index: u32) -> impl Iterator<Item = Place> {
 struct Block {
     number: u32,
     index: u32,
+    /// The word for the total.
     total: u32,
     payload: [u32; PAYLOAD_WORDS],
 }
@@ -199,7 +205,7 @@ impl Reading {
         let block = Block::decode(bytes)?;
         let good = block.index == self.came
             && block.index < blocks(m)
-            && block.total == blocks(m)
+            && block.total == total_word(m)
             && (self.came == 0 || block.number == self.number)
             && block.fill_is_right(m);
         good.then_some(block)

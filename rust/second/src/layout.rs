@@ -1,13 +1,13 @@
 //! Every size and every place of the lent words, each said once.
 
 /// F at most.
-pub const MOST_FRAMES: u32 = 4096;
+pub const MOST_FRAMES: u32 = 16_384;
 /// n at most.
-pub const MOST_PAGES: u32 = 256;
+pub const MOST_PAGES: u32 = 1024;
 /// Words in a frame, a page or a table.
 pub const FRAME_WORDS: usize = 1024;
 /// Words in the ledger's header.
-pub const HEADER_WORDS: usize = 32;
+pub const HEADER_WORDS: usize = 64;
 /// Words in the record of a page, of a call and of an answer.
 pub const RECORD_WORDS: usize = 32;
 /// Calls in a batch at most.
@@ -28,8 +28,12 @@ pub const FLAG_BITS: u32 = 0xf000_0000;
 /// Tables that a first-level page can name; its other words are zero.
 pub const MOST_TABLES: usize = 256;
 
-/// Words before a block's payload, in a saved image: number, index, total.
+/// Words before a block's payload, in a saved image: number, index, and what
+/// says the total.
 pub const BLOCK_HEAD: usize = 3;
+/// What the third of them says besides the total; images whose header had 32
+/// words say the total alone, and are so refused.
+pub const TOTAL_FROM: u32 = 65_536;
 /// Words of a block's payload.
 pub const PAYLOAD_WORDS: usize = 124;
 /// Bytes of a block before its check.

@@ -31,6 +31,8 @@
 //!   total.
 //! - A reading that has met a bad block keeps that answer. The image's number
 //!   is that of its first block.
+//! - The header has 64 words in every box, however few its pages. Of a block
+//!   only word 2 says 65,536 more: indexes and the number of blocks do not.
 
 pub mod accept;
 pub mod calls;

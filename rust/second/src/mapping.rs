@@ -85,7 +85,7 @@ impl Leaf {
         (leaf.word() == word && leaf.rights & READ != 0).then_some(leaf)
     }
 
-    /// The slot word. Frames are below 4,096, so nothing is lost.
+    /// The slot word. Frames are below 16,384, so nothing is lost.
     pub fn word(self) -> u32 {
         self.frame << PAGE_SHIFT | self.rights
     }

@@ -5,7 +5,9 @@ use second::layout::{
     FRAME_WORDS, HASH_WORDS, HEADER_WORDS, KEY_START, MAP_END, MAP_START, MOST_CALLS, MOST_FRAMES,
     MOST_PAGES, RECORD_WORDS, RUNNING,
 };
-use second::random::{fresh, limit_machines, random_machine, unfit_machines, Rng};
+use second::random::{
+    fresh, largest_machines, limit_machines, random_machine, unfit_machines, Rng,
+};
 use second::{accepts, batch, boot, direct, Machine};
 
 /// Lists of random words of these lengths, to see that nothing is written.
@@ -27,8 +29,8 @@ fn fitting(rng: &mut Rng, machine: Machine, records: usize) -> Lent {
         fresh(rng, machine)
     } else {
         // Lengths that would fit, as far as such lists can be had.
-        let frames = machine.frames.min(5000) as usize;
-        let pages = machine.pages.min(5000) as usize;
+        let frames = machine.frames.min(MOST_FRAMES + 1) as usize;
+        let pages = machine.pages.min(MOST_PAGES + 1) as usize;
         (words(rng, FRAME_WORDS * frames), words(rng, HEADER_WORDS + RECORD_WORDS * pages))
     };
     let calls = (0..records).flat_map(|_| [1].into_iter().chain([0; RECORD_WORDS - 1])).collect();
@@ -62,7 +64,7 @@ fn batch_refused(machine: Machine, lent: &mut Lent) {
 #[test]
 fn fitting_numbers_are_obeyed() {
     let mut rng = Rng::new(1);
-    let mut machines = limit_machines();
+    let mut machines = [limit_machines(), largest_machines()].concat();
     machines.extend((0..30).map(|_| random_machine(&mut rng)));
     for machine in machines {
         assert!(machine.fits(), "{machine:?}");
@@ -122,7 +124,8 @@ fn plainly_fits(m: Machine) -> bool {
 /// A list one word longer, then one shorter.
 fn both_ways(list: fn(&mut Lent) -> &mut Vec<u32>, check: fn(Machine, &mut Lent)) {
     let mut rng = Rng::new(3);
-    for machine in [BOX_A, limit_machines()[0], limit_machines()[7]] {
+    let smallest = Machine { frames: 2, secure: 0, pages: 1, monitor: 1, monitors: 1 };
+    for machine in [BOX_A, smallest, limit_machines()[0]] {
         let mut longer = fitting(&mut rng, machine, 3);
         list(&mut longer).push(0);
         check(machine, &mut longer);
@@ -164,7 +167,7 @@ fn call_lists_that_do_not_fit() {
 #[test]
 fn boot_on_any_words() {
     let mut rng = Rng::new(5);
-    for machine in limit_machines() {
+    for machine in [limit_machines(), largest_machines()].concat() {
         let mut memory = words(&mut rng, machine.memory_words());
         let mut ledger = words(&mut rng, machine.ledger_words());
         let (old, key) = (memory.clone(), words(&mut rng, HASH_WORDS));

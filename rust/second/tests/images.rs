@@ -5,7 +5,7 @@ mod common;
 mod saved;
 
 use common::Lent;
-use saved::{mend, set, word, written, Block, Reader, IN_LEDGER};
+use saved::{mend, set, word, written, written_of_old, Block, Reader, IN_LEDGER};
 use second::cases::{BOX_A, KEY};
 use second::layout::{record_of, BLOCK_BYTES, RECORD_WORDS};
 use second::shift::record;
@@ -52,11 +52,11 @@ fn bad_at(name: &str, stream: &[Block], place: usize) {
 
 #[test]
 fn totals() {
-    for (pages, total) in [(1, 9), (8, 69), (15, 128), (46, 392), (256, 2181)] {
+    for (pages, total) in [(1, 10), (8, 69), (15, 129), (30, 256), (256, 2181), (1024, 8722)] {
         assert_eq!(image_blocks(with_pages(pages)), total);
     }
-    for pages in 1..=256 {
-        let (total, words) = (image_blocks(with_pages(pages)), 32 + 32 * pages + 1024 * pages);
+    for pages in 1..=1024 {
+        let (total, words) = (image_blocks(with_pages(pages)), 64 + 32 * pages + 1024 * pages);
         assert!(124 * total >= words && 124 * (total - 1) < words, "{pages}");
     }
     assert_eq!(image_blocks(BOX_A), 69);
@@ -69,12 +69,12 @@ fn totals() {
 fn the_first_block() {
     let block = &blocks()[0];
     let words: Vec<u32> = (0..128).map(|place| word(block, place)).collect();
-    assert_eq!(words[..4], [7, 0, 69, 0]);
+    assert_eq!(words[..4], [7, 0, 69 + 65_536, 0]);
     assert_eq!(words[4..12], KEY);
     assert_eq!(words[12], 255);
     assert!(words[13..127].iter().all(|word| *word == 0));
-    assert_eq!(words[127], 0x3685_ad66);
-    assert_eq!(block[508..], [0x66, 0xad, 0x85, 0x36]);
+    assert_eq!(words[127], 0xbbde_2a8e);
+    assert_eq!(block[508..], [0x8e, 0x2a, 0xde, 0xbb]);
 }
 
 /// Every word of the image stands where it belongs, and zeros behind.
@@ -89,7 +89,7 @@ fn every_word_is_written() {
         .flat_map(|block| (3..127).map(|place| word(block, place)).collect::<Vec<_>>())
         .collect();
     let secure = &state.memory[6 * 1024..14 * 1024];
-    let fill = vec![0; 69 * 124 - 8480];
+    let fill = vec![0; 69 * 124 - 8512];
     assert_eq!(payload, [&state.ledger[..], secure, &fill].concat());
 }
 
@@ -108,7 +108,7 @@ fn read_whole() {
 
 #[test]
 fn boxes_of_other_sizes() {
-    for pages in [1, 2, 15, 46, 256] {
+    for pages in [1, 2, 15, 30, 256, 1024] {
         let machine = with_pages(pages);
         let mut memory = vec![3; machine.memory_words()];
         let mut ledger = vec![3; machine.ledger_words()];
@@ -116,7 +116,7 @@ fn boxes_of_other_sizes() {
         let stream = written(machine, &memory, &ledger, 5);
         let (code, after) = Reader::new(machine).whole(&stream);
         assert_eq!(code, DONE, "{pages}");
-        assert_eq!(after.payload(), (32 + 32 * pages as usize, 1024 * pages as usize));
+        assert_eq!(after.payload(), (64 + 32 * pages as usize, 1024 * pages as usize));
         assert!(after.ledger == ledger);
         let (code, after) = Reader::new(machine).whole(&stream[..stream.len() - 1]);
         assert_eq!((code, after.progress[1] as usize), (BAD_BLOCK, stream.len() - 1));
@@ -165,13 +165,13 @@ fn too_few_and_too_many() {
         bad_at("cut", &stream[..came], came);
     }
     let (_, after) = reader().whole(&stream[..68]);
-    assert_eq!(after.payload(), (288, 8144));
+    assert_eq!(after.payload(), (320, 8112));
     let mut more = stream[68].clone();
     bad_at("the last twice", &[&stream[..], &[more.clone()]].concat(), 69);
     set(&mut more, 1, 69);
     mend(&mut more);
     bad_at("one more", &[&stream[..], &[more.clone()]].concat(), 69);
-    set(&mut more, 2, 70);
+    set(&mut more, 2, 70 + 65_536);
     mend(&mut more);
     bad_at("one more of more", &[&stream[..], &[more]].concat(), 69);
 }
@@ -244,14 +244,14 @@ fn wrong_words_with_a_right_check() {
     }
     bad_at("another number after the first block", &with(0, 0, 8), 1);
     for place in [0, 1, 40, 68] {
-        for total in [0, 68, 70, 69 + 65536, u32::MAX] {
+        for total in [0, 69, 68 + 65_536, 70 + 65_536, 69 + 131_072, u32::MAX] {
             bad_at("another total", &with(place, 2, total), place);
         }
     }
-    for word in 51..127 {
+    for word in 83..127 {
         bad_at("a wrong fill", &with(68, word, 1 << (word % 32)), 68);
     }
-    assert_eq!(reader().whole(&with(68, 50, 1)).0, NOT_ACCEPTED);
+    assert_eq!(reader().whole(&with(68, 82, 1)).0, NOT_ACCEPTED);
 }
 
 #[test]
@@ -292,6 +292,28 @@ fn another_image() {
     let smaller =
         written(machine, &state.memory[..9 * 1024], &state.ledger[..machine.ledger_words()], 7);
     bad_at("of a smaller box", &smaller, 0);
+}
+
+/// An image of an older monitor, booted or not, and whatever its blocks hold:
+/// nothing of it is read.
+#[test]
+fn an_old_image() {
+    for state in [fresh(), Lent::accepted()] {
+        let old = written_of_old(BOX_A, &state.memory, &state.ledger, 7);
+        assert_eq!(old.len(), 69);
+        bad_at("old", &old, 0);
+        let mut plain = image(&state, 7);
+        for block in &mut plain {
+            set(block, 2, 69);
+            mend(block);
+        }
+        bad_at("the plain total", &plain, 0);
+    }
+    let block = &written_of_old(BOX_A, &fresh().memory, &fresh().ledger, 7)[0];
+    assert_eq!([2, 12, 127].map(|place| word(block, place)), [69, 255, 0x3685_ad66]);
+    let mut after = reader();
+    assert_eq!((after.read(block), after.payload()), (BAD_BLOCK, (0, 0)));
+    assert_eq!(after.progress, [BAD_BLOCK, 0, 0, 0]);
 }
 
 /// 25 and 26 are the answers that a reader leaves; any other counts as 25.
@@ -367,8 +389,8 @@ fn the_reader_refuses() {
     }
     refused(Reader { memory: vec![0; 16 * 1024 - 1], ..reader() });
     refused(Reader { memory: vec![0; 16 * 1024 + 1], ..reader() });
-    refused(Reader { ledger: vec![0; 287], ..reader() });
-    refused(Reader { ledger: vec![0; 289], ..reader() });
+    refused(Reader { ledger: vec![0; 319], ..reader() });
+    refused(Reader { ledger: vec![0; 321], ..reader() });
     for machine in second::random::unfit_machines() {
         refused(Reader { machine, ..reader() });
     }

@@ -6,7 +6,8 @@ use second::layout::{
     Record, FRAME_WORDS, KEY_START, MAP_START, MOST_CALLS, RECORD_WORDS, RUNNING,
 };
 use second::random::{
-    fresh, limit_machines, next_call, outsider, random_machine, Coverage, Rng, View,
+    fresh, largest_machines, limit_machines, next_call, outsider, random_machine, Coverage, Rng,
+    View,
 };
 use second::{accepts, batch, direct, Machine, DONE};
 
@@ -115,6 +116,9 @@ fn boxes_at_the_limits() {
     for machine in limit_machines() {
         let calls = 400_000 / machine.frames as usize;
         shift(&mut rng, machine, calls.clamp(100, 3000), &mut coverage);
+    }
+    for machine in largest_machines() {
+        shift(&mut rng, machine, 20, &mut coverage);
     }
     assert_eq!(coverage.strange(), []);
 }

@@ -19,8 +19,8 @@ const ALONE: [Case; 19] = [
         "header word 0: the running thread's page 5 is no thread but a spare page"),
     (Rule::A3, |lent| lent.ledger[MAP_START] |= 1 << 5,
         "header word 9: page 5 is taken in its record and free in the free map"),
-    (Rule::A4, |lent| lent.ledger[20] = 7,
-        "header word 20: expected zero, found 7"),
+    (Rule::A4, |lent| lent.ledger[50] = 7,
+        "header word 50: expected zero, found 7"),
     (Rule::A5, |lent| { lent.record(6)[0] = 9; lent.ledger[MAP_START] &= !(1 << 6) },
         "page 6, word 0 of its record: expected a type, 0 to 6, found 9"),
     (Rule::A6, |lent| lent.record(3)[2] = 4107,
@@ -111,7 +111,7 @@ fn the_page_and_the_place() {
     };
     assert_eq!(told(1), (None, Place::Lent));
     assert_eq!(told(2), (Some(5), Place::Header { word: 0 }));
-    assert_eq!(told(4), (None, Place::Header { word: 20 }));
+    assert_eq!(told(4), (None, Place::Header { word: 50 }));
     assert_eq!(told(12), (Some(4), Place::Record { page: 4, word: 3 }));
     assert_eq!(told(16), (Some(5), Place::Frame { page: 1, word: 9 }));
     assert_eq!(told(19), (Some(3), Place::Frame { page: 2, word: 1 }));

@@ -23,10 +23,10 @@ fn numbers_that_do_not_fit() {
         assert_eq!(broken.fault, fault);
     };
     let a = BOX_A;
-    told(Machine { frames: 0, ..a }, "expected F from 1 to 4096, found 0");
-    told(Machine { frames: 4097, ..a }, "expected F from 1 to 4096, found 4097");
-    told(Machine { pages: 0, ..a }, "expected n from 1 to 256, found 0");
-    told(Machine { pages: 257, ..a }, "expected n from 1 to 256, found 257");
+    told(Machine { frames: 0, ..a }, "expected F from 1 to 16384, found 0");
+    told(Machine { frames: 16_385, ..a }, "expected F from 1 to 16384, found 16385");
+    told(Machine { pages: 0, ..a }, "expected n from 1 to 1024, found 0");
+    told(Machine { pages: 1025, ..a }, "expected n from 1 to 1024, found 1025");
     told(Machine { monitors: 0, ..a }, "expected k of at least 1, found 0");
     told(Machine { secure: 9, ..a }, "expected s+n of at most F, 16, found 17");
     let most = u32::MAX;
@@ -46,11 +46,11 @@ fn numbers_that_do_not_fit() {
 fn lengths() {
     use Rule::A1;
     let memory = |found: &str| format!("expected 1024F words of memory, 16384, found {found}");
-    let ledger = |found: &str| format!("expected 32+32n words of ledger, 288, found {found}");
+    let ledger = |found: &str| format!("expected 64+32n words of ledger, 320, found {found}");
     told(A1, |lent| lent.memory.push(0), &memory("16385"));
     told(A1, |lent| lent.memory.clear(), &memory("0"));
-    told(A1, |lent| lent.ledger.truncate(287), &ledger("287"));
-    told(A1, |lent| lent.ledger.push(0), &ledger("289"));
+    told(A1, |lent| lent.ledger.truncate(319), &ledger("319"));
+    told(A1, |lent| lent.ledger.push(0), &ledger("321"));
     told(A1, |lent| lent.ledger.clear(), &ledger("0"));
 }
 
@@ -74,10 +74,12 @@ fn the_header() {
     told(A3, |lent| lent.ledger[MAP_START] = 0, free);
     let beyond = "header word 9: the bit of number 8 is 1, and pages are below 8";
     told(A3, |lent| lent.ledger[MAP_START] |= 1 << 8, beyond);
-    let last = "header word 16: the bit of number 255 is 1, and pages are below 8";
-    told(A3, |lent| lent.ledger[16] = 1 << 31, last);
-    told(A4, |lent| lent.ledger[17] = 1, "header word 17: expected zero, found 1");
-    told(A4, |lent| lent.ledger[31] = 1, "header word 31: expected zero, found 1");
+    let later = "header word 17: the bit of number 256 is 1, and pages are below 8";
+    told(A3, |lent| lent.ledger[17] = 1, later);
+    let last = "header word 40: the bit of number 1023 is 1, and pages are below 8";
+    told(A3, |lent| lent.ledger[40] = 1 << 31, last);
+    told(A4, |lent| lent.ledger[41] = 1, "header word 41: expected zero, found 1");
+    told(A4, |lent| lent.ledger[63] = 1, "header word 63: expected zero, found 1");
 }
 
 #[test]

@@ -3,7 +3,7 @@
 use super::stream::{mend, set, word, Stream, CHECK};
 use crate::checks::random_bytes;
 use second::crc::crc32;
-use second::layout::{BLOCK_BYTES, BLOCK_HEAD, CHECKED_BYTES, PAYLOAD_WORDS};
+use second::layout::{BLOCK_BYTES, BLOCK_HEAD, CHECKED_BYTES, PAYLOAD_WORDS, TOTAL_FROM};
 use second::random::{fresh, Rng};
 use second::{image_blocks, image_write, Machine};
 
@@ -142,13 +142,15 @@ impl Hurt<'_> {
     fn index(&mut self) -> Option<usize> {
         let (place, total) = (self.any()?, self.stream.total());
         let index = self.stream.first + place as u32;
-        let others = [0, index.wrapping_sub(1), index + 1, total, u32::MAX];
+        let others = [0, index.wrapping_sub(1), index + 1, index + TOTAL_FROM, total, u32::MAX];
         self.reword(place, 1, &others)
     }
 
     fn total(&mut self) -> Option<usize> {
         let (place, total) = (self.any()?, self.stream.total());
-        self.reword(place, 2, &[0, total - 1, total + 1, total + (1 << 16), u32::MAX])
+        let word = total + TOTAL_FROM;
+        let others = [0, total, TOTAL_FROM, word - 1, word + 1, word + TOTAL_FROM, u32::MAX];
+        self.reword(place, 2, &others)
     }
 
     /// One word behind the image, the first or the last one often.

@@ -9,22 +9,26 @@ pub mod tally;
 use crate::checks::random_bytes;
 use crate::lent::random_words;
 use crate::services::Images;
-use crate::{expect, Outcome};
+use crate::{expect, old, Outcome};
 use damage::kinds;
 use savers::Savers;
 use second::layout::{
     BLOCK_BYTES, FRAME_WORDS, MOST_FRAMES, MOST_PAGES, PAYLOAD_WORDS, PROGRESS_WORDS, RUNNING,
+    TOTAL_FROM,
 };
 use second::random::{damage, fresh, next_call, Rng, View};
-use second::{accepts, batch, image_blocks, Machine, BAD_BLOCK, DONE, NOT_ACCEPTED, UNFIT};
+use second::{
+    accepts, batch, image_blocks, image_write, Machine, BAD_BLOCK, DONE, NOT_ACCEPTED, UNFIT,
+};
 use stream::{mend, set, Stream};
 use tally::{tried, Images as Tally};
 
 /// Pages up to which an image is written and read whole, always and at times.
 const FEW: u32 = 8;
 const SOME: u32 = 64;
-/// Pages of the smallest box whose image has no fill.
-const FULL: u32 = 15;
+/// Pages of the smallest box whose image has no fill, and whose old one had none.
+const FULL: u32 = 30;
+const OLD_FULL: u32 = 15;
 /// Blocks that are written of a longer one.
 const WINDOW: u32 = 6;
 /// Frames from which on a spare is costly.
@@ -54,16 +58,12 @@ pub fn saved(
     desk.image(name, View { machine, memory: &memory, ledger: &ledger })
 }
 
-/// Whatever is lent, fitting or not: some of the services, and how many refused.
+/// Whatever is lent, fitting or not: the four services, and how many refused.
 pub fn as_lent(savers: &mut Savers, rng: &mut Rng, tally: &mut Tally) -> Result<u64, String> {
     savers.set_progress(&[0, rng.below(2), rng.below(2), 0]);
     let block = random_bytes(rng, BLOCK_BYTES);
-    let large = savers.machine.frames >= LARGE;
     let mut refused = u64::from(savers.blocks(tally)? == 0);
     for service in 0..3 {
-        if large && rng.once_in(2) {
-            continue;
-        }
         let answer = match service {
             0 => savers.write(rng.word(), rng.below(9), &block, tally)?,
             1 => savers.read(&block, tally)?,
@@ -99,12 +99,17 @@ impl<'s> Desk<'s, '_> {
             savers.machine = machine(pages);
             savers.blocks(self.tally)?;
         }
-        Ok(())
+        savers.machine = Machine { frames: MOST_FRAMES + 1, ..machine(1) };
+        savers.blocks(self.tally).map(drop)
     }
 
     /// Mostly of few pages; now and then of those whose image has no fill.
     fn small_box(&mut self) -> Machine {
-        let pages = if self.turn.is_multiple_of(8) { FULL } else { 1 + self.rng.below(FEW) };
+        let pages = match self.turn % 8 {
+            0 => FULL,
+            4 => OLD_FULL,
+            _ => 1 + self.rng.below(FEW),
+        };
         let (before, after) = (self.rng.below(3), self.rng.below(3));
         let secure = 1 + before;
         Machine { frames: secure + pages + after, secure, pages, monitor: 0, monitors: 1 }
@@ -159,6 +164,7 @@ impl<'s> Desk<'s, '_> {
         }
         self.not_written(&mut savers)?;
         let mut spare = self.spare(machine);
+        self.old(&mut spare, state)?;
         if stream.is_whole() {
             self.tally.met(name);
             self.read_whole(spare.clone(), &stream, state)?;
@@ -202,6 +208,45 @@ impl<'s> Desk<'s, '_> {
         let block = random_bytes(self.rng, length);
         self.tally.met(tried::WRITERS_BLOCK);
         expect(savers.write(self.rng.word(), self.rng.below(total), &block, self.tally)?, UNFIT)
+    }
+
+    /// Images in the old form, and of today's words under the total alone, are
+    /// refused at block 0, and nothing of them is written.
+    fn old(&mut self, spare: &mut Savers, state: View) -> Outcome {
+        let View { machine, memory, ledger } = state;
+        let number = self.rng.word();
+        let mut plain = vec![0; BLOCK_BYTES];
+        image_write(machine, memory, ledger, number, 0, &mut plain);
+        set(&mut plain, 2, image_blocks(machine));
+        mend(&mut plain);
+        self.refused_at_once(spare, tried::PLAIN_TOTAL, &[plain])?;
+        if machine.pages <= old::PAGES {
+            let blocks: Vec<_> = old::blocks(state, number).take(3).collect();
+            self.refused_at_once(spare, tried::OLD, &blocks)?;
+        }
+        Ok(())
+    }
+
+    fn refused_at_once(
+        &mut self,
+        spare: &mut Savers,
+        what: &'static str,
+        blocks: &[Vec<u8>],
+    ) -> Outcome {
+        self.tally.met(what);
+        let before = (spare.lent().memory.clone(), spare.lent().ledger.clone());
+        let number = self.rng.word();
+        spare.set_progress(&[0, 0, number, 0]);
+        for block in blocks {
+            expect(spare.read(block, self.tally)?, BAD_BLOCK)?;
+        }
+        expect(spare.end(self.tally)?, BAD_BLOCK)?;
+        let after = spare.lent();
+        let same = (&after.memory, &after.ledger) == (&before.0, &before.1);
+        match same && after.progress.words() == [BAD_BLOCK, 0, number, 0] {
+            true => Ok(()),
+            false => Err(format!("{what} is not refused at block 0 with nothing written")),
+        }
     }
 
     /// All blocks are good: the spare holds the image, and acceptance decides.
@@ -279,7 +324,9 @@ impl<'s> Desk<'s, '_> {
             self.rng.pick(&[0, 0, 0, 0, 1, 7, UNFIT, 24, BAD_BLOCK, NOT_ACCEPTED, 27, 28, any]);
         let place = self.rng.below(stream.blocks.len() as u32);
         let index = stream.first + place;
-        let came = [index, index, index, 0, total - 1, total, total, total + 1, u32::MAX, any];
+        let shifted = total + TOTAL_FROM;
+        let came =
+            [index, index, index, 0, total - 1, total, total, total + 1, shifted, u32::MAX, any];
         let came = self.rng.pick(&came);
         let number = self.rng.pick(&[stream.number, stream.number, 0, any]);
         savers.set_progress(&[answer, came, number, self.rng.word()]);

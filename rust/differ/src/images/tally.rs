@@ -1,6 +1,7 @@
 //! What a run has tried of saved images.
 
 use super::damage::kinds;
+use second::layout::MOST_PAGES;
 use second::{BAD_BLOCK, DONE, NOT_ACCEPTED, UNFIT};
 use std::collections::{BTreeMap, BTreeSet};
 use std::fmt;
@@ -52,8 +53,10 @@ pub mod tried {
     pub const END_AGAIN: &str = "an end after an end";
     pub const AFTER_BAD: &str = "a good block after a bad one";
     pub const AFTER_YES: &str = "a block after a yes";
+    pub const OLD: &str = "an old image";
+    pub const PLAIN_TOTAL: &str = "an image with the total alone in word 2";
     /// All of these.
-    pub const ALL: [&str; 12] = [
+    pub const ALL: [&str; 14] = [
         ACCEPTED,
         DAMAGED,
         RANDOM,
@@ -66,12 +69,15 @@ pub mod tried {
         END_AGAIN,
         AFTER_BAD,
         AFTER_YES,
+        OLD,
+        PLAIN_TOTAL,
     ];
 }
 
 /// n of boxes that a whole run must have read an image of: the fewest blocks,
-/// box A's, one without fill, the most.
-const PAGES: [u32; 4] = [1, 8, 15, 256];
+/// box A's, one whose old image had no fill, one without fill, the most of old
+/// images, the most.
+const PAGES: [u32; 6] = [1, 8, 15, 30, 256, MOST_PAGES];
 
 /// Counts over all rounds of a run.
 #[derive(Default)]

@@ -1,9 +1,14 @@
 //! The second program with another reading of saved images, and what such
 //! readings are made of.
 
+use differ::images::saved;
 use differ::images::stream::{mend, set, word, CHECK};
 use differ::services::{Images, Services};
+use differ::tally::Tally;
+use second::cases::BOX_A;
 use second::layout::{BLOCK_BYTES, BLOCK_HEAD, CHECKED_BYTES, FRAME_WORDS, PAYLOAD_WORDS};
+use second::random::{fresh, Rng, View};
+use second::shift::record;
 use second::{
     accepts, batch, boot, image_blocks, image_end, image_read, image_write, Machine, DONE,
 };
@@ -41,6 +46,79 @@ pub fn read(read: Read) -> Wrong {
 
 pub fn end(end: End) -> Wrong {
     Wrong { end, ..RIGHT }
+}
+
+/// The first difference in that part of so many rounds which saves images. Box A
+/// has a running thread there.
+pub fn difference(images: &dyn Images, rounds: u64) -> Option<String> {
+    let mut tally = Tally::default();
+    (0..rounds).find_map(|seed| {
+        let rng = &mut Rng::new(seed);
+        let (mut memory, mut ledger) = fresh(rng, BOX_A);
+        let calls = [&[2, 0, 1][..], &[3, 0, 2, 4096], &[8, 0], &[9, 2]].map(record).concat();
+        let answers = &mut vec![0; calls.len()];
+        assert_eq!(batch(BOX_A, &mut memory, &mut ledger, &calls, answers), DONE);
+        let state = View { machine: BOX_A, memory: &memory, ledger: &ledger };
+        let found = saved(images, rng, seed, state, &mut tally.images).err();
+        found.map(|what| format!("seed {seed}: {what}"))
+    })
+}
+
+pub fn told_apart(name: &str, flaw: Wrong) {
+    let found = difference(&flaw, 120);
+    println!("{name}: {}", found.as_deref().unwrap_or("NOT FOUND"));
+    assert!(found.is_some(), "{name}");
+}
+
+/// Whether a reading that was good has met this answer just now.
+pub fn just_now(code: u32, answer: u32, before: &[u32]) -> bool {
+    code == answer && before.first() == Some(&0)
+}
+
+/// A writer that changes what it has written.
+macro_rules! writes {
+    ($name:literal, $change:expr) => {
+        $crate::wrong_images::told_apart(
+            $name,
+            $crate::wrong_images::write(|m, mem, led, number, index, block| {
+                $crate::wrong_images::rewritten(m, (mem, led), (number, index), block, $change)
+            }),
+        )
+    };
+}
+
+/// A reader that sees another block than it is lent.
+macro_rules! sees {
+    ($name:literal, $amend:expr) => {
+        $crate::wrong_images::told_apart(
+            $name,
+            $crate::wrong_images::read(|m, mem, led, progress, block| {
+                let amend: fn(second::Machine, &[u32], &[u8]) -> Vec<u8> = $amend;
+                let seen = match progress.len() {
+                    4 => amend(m, progress, block),
+                    _ => block.to_vec(),
+                };
+                second::image_read(m, mem, led, progress, &seen)
+            }),
+        )
+    };
+}
+
+/// A reader that does something after the rules' reader has answered: it is
+/// given that answer, the lent lists and the progress before.
+macro_rules! after_reading {
+    ($name:literal, $after:expr) => {
+        $crate::wrong_images::told_apart(
+            $name,
+            $crate::wrong_images::read(|m, mem, led, progress, block| {
+                type After<'a> = (second::Machine, &'a mut [u32], &'a mut [u32], &'a mut [u32]);
+                let after: fn(u32, After, &[u32], &[u8]) -> u32 = $after;
+                let before = progress.to_vec();
+                let code = second::image_read(m, mem, led, progress, block);
+                after(code, (m, mem, led, progress), &before, block)
+            }),
+        )
+    };
 }
 
 /// The words of an image in their order.

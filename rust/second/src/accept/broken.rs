@@ -14,7 +14,7 @@ const WORDS: [&str; 19] = [
     "What is lent: the machine numbers fit; memory and ledger have their lengths",
     "Header: word 0 is zero, or t + 1 where t is below n, page t is a thread, its word 3 is 0, and its owner's state is final",
     "Header: the free map is exact, bit by bit, in all its words",
-    "Header: words 17-31 are zero",
+    "Header: words 41-63 are zero",
     "Every page: its type is 0 to 6",
     "Every page: its record has the layout of its type",
     "Every page that is not free: word 1 is below n and names a space",

@@ -66,7 +66,7 @@ impl Lent<'_> {
         })
     }
 
-    /// A4: words 17-31 are zero.
+    /// A4: words 41-63 are zero.
     fn header_zero(&self, word: usize) -> Verdict {
         let found = self.ledger[word];
         demand(found == 0, || {

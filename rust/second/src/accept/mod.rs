@@ -43,7 +43,7 @@ pub fn fitting(m: Machine, memory: &[u32], ledger: &[u32]) -> Result<(), Broken>
         })?;
         let (asked, found) = (m.ledger_words(), ledger.len());
         demand(asked == found, || {
-            format!("expected 32+32n words of ledger, {asked}, found {found}")
+            format!("expected 64+32n words of ledger, {asked}, found {found}")
         })
     };
     m.fitting().and_then(|()| lengths()).map_err(Broken::lent)

@@ -88,10 +88,15 @@ fn shape(rng: &mut Rng, pages: u32) -> Machine {
 pub fn random_machine(rng: &mut Rng) -> Machine {
     let few = 1 + rng.below(20);
     let sizes = [few, few, few, 6, 8, 8, 10, 14, 16, 31, 32, 33, 64];
-    let odd = [1, 2, 100, MOST_PAGES - 1, MOST_PAGES];
-    let pages = if rng.once_in(24) { rng.pick(&odd) } else { rng.pick(&sizes) };
+    let odd = [1, 2, 100, 255, 256, 257];
+    let most = [MOST_PAGES - 31, MOST_PAGES - 1, MOST_PAGES];
+    let pages = match rng.below(96) {
+        0 => rng.pick(&most),
+        1..5 => rng.pick(&odd),
+        _ => rng.pick(&sizes),
+    };
     let mut machine = shape(rng, pages);
-    if rng.once_in(64) {
+    if rng.once_in(256) {
         machine.frames = MOST_FRAMES;
     }
     machine
@@ -101,10 +106,15 @@ const fn machine(frames: u32, secure: u32, pages: u32, monitor: u32, monitors: u
     Machine { frames, secure, pages, monitor, monitors }
 }
 
-/// Machines at the limits of the rules, all fitting.
+/// Machines at the limits of the rules, all fitting, and at the ends of words
+/// of the free map.
 pub fn limit_machines() -> Vec<Machine> {
-    let rest = MOST_FRAMES - MOST_PAGES;
     vec![
+        machine(MOST_PAGES + 2, 2, MOST_PAGES, 0, 2),
+        machine(260, 2, 257, 0, 1),
+        machine(37, 1, 33, 35, 1),
+        machine(MOST_PAGES + 1, 1, MOST_PAGES - 1, 0, 1),
+        machine(258, 0, 256, 256, 1),
         machine(2, 0, 1, 1, 1),
         machine(2, 1, 1, 0, 1),
         machine(3, 1, 1, 0, 1),
@@ -112,10 +122,17 @@ pub fn limit_machines() -> Vec<Machine> {
         machine(16, 6, 8, 0, 2),
         machine(12, 0, 8, 10, 2),
         machine(9, 0, 8, 8, 1),
-        machine(MOST_PAGES + 2, 2, MOST_PAGES, 0, 1),
         machine(MOST_PAGES + 44, 0, MOST_PAGES, MOST_PAGES, 44),
-        machine(MOST_FRAMES, rest, MOST_PAGES, 0, rest - 1),
+    ]
+}
+
+/// Machines of as many frames as can be: 64 MB, so that little can be done on
+/// them.
+pub fn largest_machines() -> Vec<Machine> {
+    let rest = MOST_FRAMES - MOST_PAGES;
+    vec![
         machine(MOST_FRAMES, 17, 32, MOST_FRAMES - 1, 1),
+        machine(MOST_FRAMES, rest, MOST_PAGES, 0, rest - 1),
     ]
 }
 
@@ -133,9 +150,9 @@ pub fn unfit_machines() -> Vec<Machine> {
     list.extend([5, 6, 13, 15, 16, most, most - 1].map(|monitor| Machine { monitor, ..fit }));
     list.extend([
         machine(MOST_FRAMES + 1, 0, MOST_PAGES, MOST_PAGES, 1),
-        machine(MOST_FRAMES, 0, MOST_PAGES + 1, MOST_PAGES + 44, 1),
-        machine(MOST_FRAMES, MOST_FRAMES - 96, 97, 0, 1),
-        machine(MOST_FRAMES, 0, 1, 1, MOST_FRAMES),
+        machine(MOST_PAGES + 45, 0, MOST_PAGES + 1, MOST_PAGES + 44, 1),
+        machine(256, 160, 97, 0, 1),
+        machine(256, 0, 1, 1, 256),
     ]);
     list
 }

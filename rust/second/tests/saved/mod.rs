@@ -1,7 +1,9 @@
 //! Blocks of images, written and read by the second program.
 
 use second::crc::crc32;
-use second::layout::{BLOCK_BYTES, CHECKED_BYTES, FRAME_WORDS, PROGRESS_WORDS};
+use second::layout::{
+    BLOCK_BYTES, CHECKED_BYTES, FRAME_WORDS, HEADER_WORDS, PAYLOAD_WORDS, PROGRESS_WORDS,
+};
 use second::{image_blocks, image_end, image_read, image_write, Machine, DONE};
 
 /// What stands in a spare before.
@@ -19,6 +21,24 @@ pub fn written(m: Machine, memory: &[u32], ledger: &[u32], number: u32) -> Vec<B
         block
     };
     (0..image_blocks(m)).map(block).collect()
+}
+
+/// The same as an older monitor wrote it: the header has 32 words, and word 2 of
+/// a block is the total alone. The box has at most 256 pages.
+pub fn written_of_old(m: Machine, memory: &[u32], ledger: &[u32], number: u32) -> Vec<Block> {
+    let secure = &memory[m.words_of(0).start..][..FRAME_WORDS * m.page_count()];
+    let words = [&ledger[..17], &[0; 15], &ledger[HEADER_WORDS..], secure].concat();
+    let payloads = words.chunks(PAYLOAD_WORDS);
+    let total = payloads.len() as u32;
+    let block = |(index, payload): (u32, &[u32])| {
+        let mut block = vec![0; BLOCK_BYTES];
+        let head = [number, index, total];
+        let words = head.iter().chain(payload).enumerate();
+        words.for_each(|(place, word)| set(&mut block, place, *word));
+        mend(&mut block);
+        block
+    };
+    (0..).zip(payloads).map(block).collect()
 }
 
 /// Word `place` of a block.
