@@ -24,7 +24,7 @@
      them by the hardware, and an enclave's loads and stores do as MONITOR_LOAD and MONITOR_STORE say.
    - An image holds the key and every secure page: its blocks are kept as the ledger is, and stay on the chip. Saving and restoring are
      nobody's to ask but the host's.
-   - Restoring rewinds history: what was done since the save is undone, and an older image is as good as the newest. Which one is restored
+   - Restoring rewinds history: what was done since the save is undone, and an image of an earlier save is as good as the newest. Which one is restored
      is the host's to decide; what is promised then starts again from the restored state.
 
    The numbers are here, and the services at the end. monitor_helpers.h, which is included last, has what a host would otherwise write
@@ -47,9 +47,9 @@
 #define MONITOR_SYSV __attribute__((sysv_abi))
 
 #define MONITOR_VERSION_MAJOR 0
-#define MONITOR_VERSION_MINOR 4
+#define MONITOR_VERSION_MINOR 5
 #define MONITOR_VERSION_PATCH 0
-#define MONITOR_VERSION "0.4.0"
+#define MONITOR_VERSION "0.5.0"
 
 #ifdef __cplusplus
 extern "C" {
@@ -57,11 +57,11 @@ extern "C" {
 
 /* Sizes. */
 enum {
-    MONITOR_MOST_FRAMES = 4096,
-    MONITOR_MOST_PAGES = 256,
+    MONITOR_MOST_FRAMES = 16384,
+    MONITOR_MOST_PAGES = 1024,
     MONITOR_MOST_TABLES = 256,  /* of an enclave: the indices of a mapping word */
     MONITOR_FRAME_WORDS = 1024, /* of a frame, of a page; the slots of a table */
-    MONITOR_HEADER_WORDS = 32,
+    MONITOR_HEADER_WORDS = 64, /* of the ledger, on every box */
     MONITOR_RECORD_WORDS = 32, /* of a page in the ledger, of a call and of its answer */
     MONITOR_KEY_WORDS = 8,
     MONITOR_MOST_CALLS = 512,    /* in a batch */
@@ -161,8 +161,8 @@ enum monitor_code {
 };
 
 /* Boot: a fresh ledger with all pages free and this key of 8 words; secure frames zero, other frames unchanged. Nothing is asked of the
-   words that were there. The ledger has the key from then on: wipe the list that it came in. Answers MONITOR_DONE; MONITOR_UNFIT where
-   numbers or lengths break the rules. */
+   words that were there. The ledger has the key from then on: wipe the list that it came in. A ledger that a version before 0.5.0 left has
+   another form and length: boot the box. Answers MONITOR_DONE; MONITOR_UNFIT where numbers or lengths break the rules. */
 MONITOR_SYSV
 uint32_t monitor_boot(uint32_t frames, uint32_t secure, uint32_t pages, uint32_t monitor, uint32_t monitors,
                       const uint32_t *key, size_t key_words,
@@ -206,7 +206,7 @@ uint32_t monitor_image_write(uint32_t frames, uint32_t secure, uint32_t pages, u
    of the end changes no word of it. Answers MONITOR_DONE where all is good so far; MONITOR_BAD_BLOCK where MONITOR_PROGRESS_CAME is the
    place of the first bad block, a block that is not MONITOR_BLOCK_BYTES long among them; MONITOR_NOT_ACCEPTED after an end that answered
    it; MONITOR_UNFIT where numbers or lengths of spare or progress break the rules. A bad block leaves the spare as it was, and every later
-   answer is the same. */
+   answer is the same. Block 0 of an image that a version before 0.5.0 wrote is bad: its ledger has another header. */
 MONITOR_SYSV
 uint32_t monitor_image_read(uint32_t frames, uint32_t secure, uint32_t pages, uint32_t monitor, uint32_t monitors,
                             uint32_t *memory, size_t memory_words,

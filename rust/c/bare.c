@@ -5,7 +5,8 @@ void *memcpy(void *to, const void *from, size_t bytes);
 void *memset(void *to, int value, size_t bytes);
 void begin(void);
 
-static uint32_t memory[2 * MONITOR_FRAME_WORDS], ledger[MONITOR_HEADER_WORDS + MONITOR_RECORD_WORDS], key[MONITOR_KEY_WORDS];
+enum { MEMORY = 2 * MONITOR_FRAME_WORDS, LEDGER = MONITOR_HEADER_WORDS + MONITOR_RECORD_WORDS };
+static uint32_t memory[MEMORY], ledger[LEDGER], key[MONITOR_KEY_WORDS];
 static uint8_t block[MONITOR_BLOCK_BYTES];
 
 /* Volatile, so that no compiler makes a call of itself out of the loop. */
@@ -29,11 +30,11 @@ void *memset(void *to, int value, size_t bytes)
 void begin(void)
 {
     struct monitor_machine box = {2, 1, 1, 0, 1};
-    monitor_boot_on(&box, key, MONITOR_KEY_WORDS, memory, 2048, ledger, 64);
-    if (monitor_accepts_on(&box, memory, 2048, ledger, 64))
-        monitor_batch_on(&box, memory, 2048, ledger, 64, key, 0, key, 0);
+    monitor_boot_on(&box, key, MONITOR_KEY_WORDS, memory, MEMORY, ledger, LEDGER);
+    if (monitor_accepts_on(&box, memory, MEMORY, ledger, LEDGER))
+        monitor_batch_on(&box, memory, MEMORY, ledger, LEDGER, key, 0, key, 0);
     if (monitor_image_blocks_on(&box) > 0)
-        monitor_image_write_on(&box, memory, 2048, ledger, 64, 1, 0, block, sizeof block);
-    monitor_image_read_on(&box, memory, 2048, ledger, 64, key, MONITOR_PROGRESS_WORDS, block, sizeof block);
-    monitor_image_end_on(&box, memory, 2048, ledger, 64, key, MONITOR_PROGRESS_WORDS);
+        monitor_image_write_on(&box, memory, MEMORY, ledger, LEDGER, 1, 0, block, sizeof block);
+    monitor_image_read_on(&box, memory, MEMORY, ledger, LEDGER, key, MONITOR_PROGRESS_WORDS, block, sizeof block);
+    monitor_image_end_on(&box, memory, MEMORY, ledger, LEDGER, key, MONITOR_PROGRESS_WORDS);
 }

@@ -29,9 +29,9 @@ static void machines(void)
 {
     expect(fits(16, 6, 8, 0, 2), "box A");
     expect(fits(2, 0, 1, 1, 1) && fits(2, 1, 1, 0, 1), "the smallest boxes");
-    expect(fits(4096, 3840, 256, 0, 3840), "the largest box");
+    expect(fits(16384, 15360, 1024, 0, 15360), "the largest box");
     expect(!fits(0, 0, 0, 0, 0) && !fits(1, 0, 1, 0, 1), "too few frames");
-    expect(!fits(4097, 0, 1, 1, 1) && !fits(4096, 1, 257, 0, 1), "too many frames or pages");
+    expect(!fits(16385, 0, 1, 1, 1) && !fits(16384, 1, 1025, 0, 1), "too many frames or pages");
     expect(!fits(16, 6, 0, 0, 2) && !fits(16, 6, 8, 0, 0), "no page, or no frame of the monitor's");
     expect(!fits(13, 6, 8, 0, 2) && !fits(16, 0, 8, 15, 2), "a range past the end");
     expect(!fits(16, 6, 8, 5, 2) && !fits(16, 6, 8, 13, 1) && fits(16, 6, 8, 14, 2), "ranges that share a frame");
@@ -45,7 +45,7 @@ static void frames(void)
     expect(monitor_is_insecure(&box_a, 5) && !monitor_is_insecure(&box_a, 6) && !monitor_is_insecure(&box_a, 13), "secure frames");
     expect(monitor_is_insecure(&box_a, 15) && !monitor_is_insecure(&box_a, 16) && !monitor_is_insecure(&box_a, UINT32_MAX), "no frames");
     expect(!monitor_is_insecure(&wraps, 15), "a range that wraps");
-    expect(monitor_memory_words(&box_a) == 16384 && monitor_ledger_words(&box_a) == 288, "the lengths of what is lent");
+    expect(monitor_memory_words(&box_a) == 16384 && monitor_ledger_words(&box_a) == 320, "the lengths of what is lent");
 }
 
 /* A well-formed word is what its parts make; any other word is none of them. */
@@ -77,25 +77,27 @@ static void mappings(void)
 /* An image of the smallest box, through the helpers: lengths at their borders, and back again. */
 static void images(void)
 {
-    static uint32_t memory[2 * MONITOR_FRAME_WORDS], ledger[64], other[2 * MONITOR_FRAME_WORDS], kept[64];
+    enum { MEMORY = 2 * MONITOR_FRAME_WORDS, LEDGER = MONITOR_HEADER_WORDS + MONITOR_RECORD_WORDS };
+    enum { BLOCKS = 10, BYTES = MONITOR_BLOCK_BYTES };
+    static uint32_t memory[MEMORY], ledger[LEDGER], other[MEMORY], kept[LEDGER];
     struct monitor_machine box = {2, 1, 1, 0, 1}, none = {2, 1, 1, 0, 0};
     uint32_t key[MONITOR_KEY_WORDS] = {1, 2, 3, 4, 5, 6, 7, 8}, progress[MONITOR_PROGRESS_WORDS] = {0}, index;
-    uint8_t block[MONITOR_BLOCK_BYTES + 1];
+    uint8_t block[BYTES + 1];
     uint8_t *odd = block + 1; /* a block may stand anywhere */
-    expect(monitor_image_blocks_on(&box) == 9 && monitor_image_blocks_on(&none) == 0, "how many blocks");
-    expect(monitor_boot_on(&box, key, MONITOR_KEY_WORDS, memory, 2048, ledger, 64) == MONITOR_DONE, "the smallest box boots");
-    expect(monitor_image_write_on(&box, memory, 2048, ledger, 64, 5, 0, block, MONITOR_BLOCK_BYTES + 1) == MONITOR_UNFIT, "a long block");
-    expect(monitor_image_write_on(&box, memory, 2048, ledger, 64, 5, 9, odd, MONITOR_BLOCK_BYTES) == MONITOR_UNFIT, "no such block");
-    expect(monitor_image_read_on(&box, other, 2048, kept, 64, progress, 3, odd, MONITOR_BLOCK_BYTES) == MONITOR_UNFIT, "a short progress");
-    for (index = 0; index < 9; index++) {
-        expect(monitor_image_write_on(&box, memory, 2048, ledger, 64, 5, index, odd, MONITOR_BLOCK_BYTES) == MONITOR_DONE, "a block out");
-        expect(monitor_image_read_on(&box, other, 2048, kept, 64, progress, MONITOR_PROGRESS_WORDS, odd, MONITOR_BLOCK_BYTES)
+    expect(monitor_image_blocks_on(&box) == BLOCKS && monitor_image_blocks_on(&none) == 0, "how many blocks");
+    expect(monitor_boot_on(&box, key, MONITOR_KEY_WORDS, memory, MEMORY, ledger, LEDGER) == MONITOR_DONE, "the smallest box boots");
+    expect(monitor_image_write_on(&box, memory, MEMORY, ledger, LEDGER, 5, 0, block, BYTES + 1) == MONITOR_UNFIT, "a long block");
+    expect(monitor_image_write_on(&box, memory, MEMORY, ledger, LEDGER, 5, BLOCKS, odd, BYTES) == MONITOR_UNFIT, "no such block");
+    expect(monitor_image_read_on(&box, other, MEMORY, kept, LEDGER, progress, 3, odd, BYTES) == MONITOR_UNFIT, "a short progress");
+    for (index = 0; index < BLOCKS; index++) {
+        expect(monitor_image_write_on(&box, memory, MEMORY, ledger, LEDGER, 5, index, odd, BYTES) == MONITOR_DONE, "a block out");
+        expect(monitor_image_read_on(&box, other, MEMORY, kept, LEDGER, progress, MONITOR_PROGRESS_WORDS, odd, BYTES)
                == MONITOR_DONE, "a block in");
     }
-    expect(monitor_image_end_on(&box, other, 2048, kept, 64, progress, MONITOR_PROGRESS_WORDS) == MONITOR_DONE, "a whole image");
+    expect(monitor_image_end_on(&box, other, MEMORY, kept, LEDGER, progress, MONITOR_PROGRESS_WORDS) == MONITOR_DONE, "a whole image");
     expect(memcmp(ledger, kept, sizeof kept) == 0 && memcmp(memory + 1024, other + 1024, 4096) == 0, "the same words");
-    expect(monitor_image_read_on(&box, other, 2048, kept, 64, progress, MONITOR_PROGRESS_WORDS, odd, MONITOR_BLOCK_BYTES)
-           == MONITOR_BAD_BLOCK && progress[MONITOR_PROGRESS_CAME] == 9, "one block too many");
+    expect(monitor_image_read_on(&box, other, MEMORY, kept, LEDGER, progress, MONITOR_PROGRESS_WORDS, odd, BYTES)
+           == MONITOR_BAD_BLOCK && progress[MONITOR_PROGRESS_CAME] == BLOCKS, "one block too many");
 }
 
 static void texts(void)

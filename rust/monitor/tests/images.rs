@@ -1,7 +1,9 @@
 //! Saved images: what a block holds, what comes back, what is refused and where.
 //! Built and run with the feature `alloc` and without.
 
-use monitor::layout::{block, BLOCK_BYTES, FRAME_WORDS, MOST_FRAMES, MOST_PAGES, PROGRESS_WORDS};
+use monitor::layout::{
+    block, BLOCK_BYTES, FRAME_WORDS, HEADER_WORDS, MOST_FRAMES, MOST_PAGES, PROGRESS_WORDS,
+};
 use monitor::{
     words, BadImage, Block, Call, Key, Ledger, List, Machine, Mapping, Memory, Monitor, Restore,
     Rule, Unfit,
@@ -67,19 +69,19 @@ fn word(block: &Block, place: usize) -> u32 {
 fn the_first_block() {
     let blocks = saved(&fresh(A), 7);
     let words: Vec<u32> = (0..BLOCK_BYTES / 4).map(|place| word(&blocks[0], place)).collect();
-    assert_eq!(words[..13], [7, 0, 69, 0, 1, 2, 3, 4, 5, 6, 7, 8, 255]);
+    assert_eq!(words[..13], [7, 0, 69 + 65536, 0, 1, 2, 3, 4, 5, 6, 7, 8, 255]);
     assert!(words[13..block::CHECK].iter().all(|word| *word == 0));
-    assert_eq!(words[block::CHECK], 0x3685_ad66);
-    assert_eq!(blocks[0][BLOCK_BYTES - 4..], [0x66, 0xad, 0x85, 0x36]);
+    assert_eq!(words[block::CHECK], 0xbbde_2a8e);
+    assert_eq!(blocks[0][BLOCK_BYTES - 4..], [0x8e, 0x2a, 0xde, 0xbb]);
     for (index, one) in (0..).zip(&blocks) {
         let head = [block::NUMBER, block::INDEX, block::TOTAL].map(|place| word(one, place));
-        assert_eq!(head, [7, index, 69]);
+        assert_eq!(head, [7, index, 69 + block::TOTAL_FROM]);
     }
 }
 
 #[test]
 fn as_many_blocks_as_are_said() {
-    for (pages, total) in [(1, 9), (8, 69), (15, 128), (MOST_PAGES, 2181)] {
+    for (pages, total) in [(1, 10), (8, 69), (30, 256), (MOST_PAGES, 8722)] {
         let machine = Machine { frames: MOST_FRAMES, secure: 6, pages, monitor: 0, monitors: 2 };
         assert_eq!(words::image_blocks(machine), total);
         assert_eq!(machine.image_blocks(), total as usize);
@@ -145,9 +147,9 @@ fn bad_blocks() {
         blocks[place][byte] ^= 1;
         blocks
     };
-    assert_eq!(refused(&good[..68]), (BadImage::Block(68), 288, 8144));
+    assert_eq!(refused(&good[..68]), (BadImage::Block(68), 320, 8112));
     assert_eq!(refused(&good[..0]), (BadImage::Block(0), 0, 0));
-    assert_eq!(refused(&[&good[..], &good[68..]].concat()), (BadImage::Block(69), 288, 8192));
+    assert_eq!(refused(&[&good[..], &good[68..]].concat()), (BadImage::Block(69), 320, 8192));
     assert_eq!(refused(&[good[0], good[0]]), (BadImage::Block(1), 124, 0));
     assert_eq!(refused(&good[1..]), (BadImage::Block(0), 0, 0));
     for byte in [0, 4, 8, 12, 507, 508, 511] {
@@ -158,6 +160,18 @@ fn bad_blocks() {
     let mut turned = good.clone();
     turned[0][BLOCK_BYTES - 4..].reverse();
     assert_eq!(refused(&turned), (BadImage::Block(0), 0, 0));
+}
+
+/// A block as versions before 0.5.0 wrote it says the bare total, with a right check.
+#[test]
+fn older_images() {
+    let mut older = saved(&fresh(A), 7);
+    let put = |block: &mut Block, place: usize, word: u32| {
+        block[4 * place..4 * place + 4].copy_from_slice(&word.to_le_bytes());
+    };
+    put(&mut older[0], block::TOTAL, 69);
+    put(&mut older[0], block::CHECK, 0x3685_ad66);
+    assert_eq!(refused(&older), (BadImage::Block(0), 0, 0));
 }
 
 #[test]
@@ -187,11 +201,11 @@ fn once_bad_it_stays_bad() {
 #[test]
 fn acceptance_comes_last() {
     let mut bench = fresh(A);
-    bench.ledger_mut().words_mut()[31] = 1;
+    bench.ledger_mut().words_mut()[HEADER_WORDS - 1] = 1;
     let mut blocks = saved(&bench, 7);
-    assert_eq!(refused(&blocks), (BadImage::NotAccepted, 288, 8192));
+    assert_eq!(refused(&blocks), (BadImage::NotAccepted, 320, 8192));
     blocks[68][0] ^= 1;
-    assert_eq!(refused(&blocks), (BadImage::Block(68), 288, 8144));
+    assert_eq!(refused(&blocks), (BadImage::Block(68), 320, 8112));
 }
 
 #[test]
@@ -203,16 +217,16 @@ fn what_does_not_fit() {
     assert_eq!(bench.image(1).err(), Some(numbers));
     let (memory, ledger) = bench.into_parts();
     let (lent, kept) = (Memory::over(memory.words()), Ledger::over(&ledger.words()[1..]));
-    let short = Unfit::Length { list: List::Ledger, found: 287, needed: 288 };
+    let short = Unfit::Length { list: List::Ledger, found: 319, needed: 320 };
     assert_eq!(Monitor::over(A, lent, kept).image(1).err(), Some(short));
     let over = |machine, memory: usize, ledger: usize| {
         let (memory, ledger) = (Memory::over(vec![0; memory]), Ledger::over(vec![0; ledger]));
         Restore::over(machine, memory, ledger).err()
     };
-    assert_eq!(over(machine, 16384, 288), Some(numbers));
-    assert_eq!(over(A, 16384, 287), Some(short));
+    assert_eq!(over(machine, 16384, 320), Some(numbers));
+    assert_eq!(over(A, 16384, 319), Some(short));
     let long = Unfit::Length { list: List::Memory, found: 16385, needed: 16384 };
-    assert_eq!(over(A, 16385, 288), Some(long));
+    assert_eq!(over(A, 16385, 320), Some(long));
 }
 
 /// In words, what is lent may have any length: 18, and nothing is written.

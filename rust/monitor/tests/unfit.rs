@@ -140,13 +140,31 @@ fn acceptance_comes_last() {
     assert_eq!(broken.rule, second::Rule::A4);
 }
 
+/// The ledger that versions before 0.5.0 kept of a page more, with a header of 32
+/// words, is as long as box A's. No such ledger is accepted, full or free.
+#[test]
+fn an_older_ledger() {
+    let larger = Machine { frames: 17, pages: 9, ..A };
+    let spares = (2..9).map(|page| Call::AllocSpare { space: 0, page });
+    let full: Vec<Call> =
+        [Call::InitAddrSpace { space: 0, first: 1 }].into_iter().chain(spares).collect();
+    for done in 0..=full.len() {
+        let mut bench = Monitor::boot(larger, &KEY).expect("it fits");
+        bench.batch(&full[..done]).expect("accepted");
+        let words = bench.ledger().words();
+        let older = [&words[..32], &words[HEADER_WORDS..]].concat();
+        assert_eq!(older.len(), A.ledger_words());
+        assert!(!words::accepts(A, &vec![0; A.memory_words()], &older), "{done}");
+    }
+}
+
 #[test]
 fn in_one_line_each() {
     for (unfit, line) in [
-        (Unfit::Numbers(Rule::Pages), "the box's numbers: expected n from 1 to 256 (18)"),
+        (Unfit::Numbers(Rule::Pages), "the box's numbers: expected n from 1 to 1024 (18)"),
         (length(List::Key, 7, 8), "the key: expected 8 words, found 7 (18)"),
         (length(List::Memory, 0, 16384), "the memory: expected 16384 words, found 0 (18)"),
-        (length(List::Ledger, 5, 288), "the ledger: expected 288 words, found 5 (18)"),
+        (length(List::Ledger, 5, 320), "the ledger: expected 320 words, found 5 (18)"),
         (
             length(List::Calls, 33, 32),
             "the call list: expected records of 32 words, at most 512, found 33 words (18)",

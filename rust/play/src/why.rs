@@ -3,6 +3,7 @@
 
 use crate::table::wrapped;
 use crate::COLUMNS;
+use monitor::layout::HEADER_WORDS;
 use monitor::{words, Machine};
 use second::{Broken, Rule};
 
@@ -15,13 +16,29 @@ cannot tell.
 const ANOTHER: &str = "
 Where it is the state of another box, --machine F,s,n,m,k says its numbers.
 ";
+/// Where the ledger is as long as that of an older version.
+const OLDER: &str = "
+A ledger of this length is also what versions before 0.5.0 wrote of this box.
+Then its state has to be booted anew.
+";
+/// The header's words, and the most pages, of those versions.
+const OLDER_HEADER_WORDS: usize = 32;
+const OLDER_MOST_PAGES: u32 = 256;
 
 /// Whether these words are accepted, and what is printed of it.
 pub fn why(machine: Machine, memory: &[u32], ledger: &[u32]) -> (bool, String) {
     let accepted = words::accepts(machine, memory, ledger);
     let Machine { frames, secure, pages, monitor, monitors } = machine;
     let same = second::Machine { frames, secure, pages, monitor, monitors };
-    (accepted, said(machine, accepted, second::why(same, memory, ledger).as_ref()))
+    let said = said(machine, accepted, second::why(same, memory, ledger).as_ref());
+    let older = if is_older(machine, ledger.len()) { OLDER } else { "" };
+    (accepted, said + older)
+}
+
+/// Whether an older version kept so many words of ledger for this box.
+fn is_older(machine: Machine, words: usize) -> bool {
+    machine.pages <= OLDER_MOST_PAGES
+        && machine.ledger_words() == words + HEADER_WORDS - OLDER_HEADER_WORDS
 }
 
 /// What is printed of a verdict, by these numbers, and of the second program's

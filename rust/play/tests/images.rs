@@ -71,10 +71,10 @@ fn what_is_saved_comes_back() {
 #[test]
 fn many_blocks() {
     let folder = Folder::new("images-many");
-    let machine = ["--machine", "4096,8,256,0,2"];
-    let out = run(&folder, &[&machine[..], &["--save", "a"]].concat(), b"2 254 255;");
-    assert_eq!(said(&out), "box: a holds the bench's key (image 1, 2181 blocks)\n");
-    let out = run(&folder, &[&machine[..], &["--load", "a"]].concat(), b"13 = 0 254 0;");
+    let machine = ["--machine", "16384,8,1024,0,2"];
+    let out = run(&folder, &[&machine[..], &["--save", "a"]].concat(), b"2 1022 1023;");
+    assert_eq!(said(&out), "box: a holds the bench's key (image 1, 8722 blocks)\n");
+    let out = run(&folder, &[&machine[..], &["--load", "a"]].concat(), b"13 = 0 1022 0;");
     assert!(out.status.success() && out.stderr.is_empty(), "{out:?}");
 }
 
@@ -112,12 +112,43 @@ fn what_is_no_image_is_refused() {
     }
     let out = run(&folder, &["--load", "a", "--machine", "16,6,9,0,2"], b"13;");
     let said = complaint(&out, 2);
-    assert_eq!(said, format!("box: --load: a: expected an image of 77 blocks, and {no_image}"));
+    assert_eq!(said, format!("box: --load: a: expected an image of 78 blocks, and {no_image}"));
     // Frames elsewhere: the tables of the image name others.
     let out = run(&folder, &["--load", "a", "--machine", "16,7,8,0,2"], b"13;");
     let said = complaint(&out, 2);
     let no = "acceptance says no: it holds no state of this box, or --machine has to name another";
     assert_eq!(said, format!("box: --load: a: expected an image of 69 blocks, and {no}"));
+}
+
+/// Blocks as versions before 0.5.0 wrote them, which say the bare total.
+fn older(total: usize) -> Vec<u8> {
+    let head = |index| [7, index, total as u32].map(u32::to_le_bytes).concat();
+    (0..total as u32).flat_map(|index| [head(index), vec![0; BLOCK - 12]].concat()).collect()
+}
+
+/// An image of an older version is told as such: not loaded, and not overwritten.
+#[test]
+fn older_images() {
+    let folder = Folder::new("images-older");
+    let anew = "it cannot be read, and its box's state has to be booted anew";
+    let found = "a saved image, found one of an older version";
+    let all = older(TOTAL);
+    for bytes in [&all[..], &all[..BLOCK], &all[..3 * BLOCK + 5], &older(2181)] {
+        fs::write(folder.0.join("a"), bytes).expect("written");
+        let said = complaint(&run(&folder, &["--load", "a", "--save", "a"], b"13;"), 2);
+        assert_eq!(said, format!("box: --load: a: expected {found}: {anew}"));
+        let said = complaint(&run(&folder, &["--save", "a"], b"13;"), 2);
+        let nothing = "expected nothing, an empty file or";
+        assert_eq!(said, format!("box: --save: a: {nothing} {found}, which is not overwritten"));
+        assert_eq!(fs::read(folder.0.join("a")).expect("a file"), bytes);
+    }
+    // One block that lost it is a bad block.
+    fs::remove_file(folder.0.join("a")).expect("removed");
+    let mut lost = saved(&folder, BUILD);
+    lost[10] = 0;
+    let bad = "block 0 is bad: it is no image, or of a box that --machine has to name";
+    assert_eq!(refused(&folder, &lost), bad);
+    assert!(refused(&folder, &all[..BLOCK - 1]).starts_with("it is too short: "));
 }
 
 #[test]

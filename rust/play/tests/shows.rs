@@ -53,7 +53,7 @@ fn why_of_a_written_state() {
     assert!(accepted.contains("\nThe rules hold. "), "{accepted}");
     let ledger = folder.0.join("state").join("ledger");
     let mut bytes = std::fs::read(&ledger).expect("the ledger");
-    bytes[31 * 4] = 1;
+    bytes[63 * 4] = 1;
     std::fs::write(&ledger, bytes).expect("written");
     let said = shown(&folder, &["why", "state"], 1);
     assert!(said.starts_with("box A 16,6,8,0,2: not accepted (by the proved check)\n"), "{said}");

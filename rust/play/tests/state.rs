@@ -103,8 +103,8 @@ fn a_state_that_cannot_be_explained() {
     assert_eq!(why("s"), "box: s/memory: expected words of 4 bytes, found 5 bytes");
     write("memory", 4);
     assert_eq!(why("s"), format!("box: s/ledger: {unread}"));
-    write("ledger", 4 * (32 + 256 * 32) + 1);
-    assert_eq!(why("s"), "box: s/ledger: expected at most 8224 words of 4 bytes, found more");
+    write("ledger", 4 * (64 + 1024 * 32) + 1);
+    assert_eq!(why("s"), "box: s/ledger: expected at most 32832 words of 4 bytes, found more");
     write("ledger", 0);
     assert_eq!(play(&folder, &["why", "s"]).status.code(), Some(1));
 }

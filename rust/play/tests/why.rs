@@ -72,7 +72,7 @@ fn long_rules_and_no_page() {
     let (_, of_table) = said(&bench);
     assert!(of_table.contains("  rule: A18 ") && of_table.contains("\n  page: 2\n"), "{of_table}");
     let mut bench = boxes::played(Machine::BOX_A, RUNS);
-    bench.ledger_mut().words_mut()[31] = 1;
+    bench.ledger_mut().words_mut()[63] = 1;
     let (_, of_header) = said(&bench);
     assert!(of_header.contains("  rule: A4 "), "{of_header}");
     assert!(of_header.contains("\n  page: none: it speaks of no page\n"), "{of_header}");
@@ -89,6 +89,22 @@ fn another_box() {
         let end = "\nWhere it is the state of another box, --machine F,s,n,m,k says its numbers.\n";
         assert!(said.ends_with(end), "{said}");
     }
+}
+
+/// A ledger as long as an older version's for this box: that is said too.
+#[test]
+fn an_older_ledger() {
+    let (memory, ledger) = boxes::played(Machine::BOX_A, RUNS).into_parts();
+    let end = "is also what versions before 0.5.0 wrote of this box.\n\
+               Then its state has to be booted anew.\n";
+    for (words, older) in [(287, false), (288, true), (289, false), (320, false)] {
+        let (accepted, said) = why::why(Machine::BOX_A, memory.words(), &ledger.words()[..words]);
+        assert_eq!((accepted, said.ends_with(end)), (words == 320, older), "{said}");
+        assert!(said.lines().all(|line| line.chars().count() <= 80), "{said}");
+    }
+    // No version had such boxes with that header.
+    let large = Machine { frames: 300, secure: 2, pages: 257, monitor: 0, monitors: 2 };
+    assert!(!why::why(large, &[], &[0; 32 + 257 * 32]).1.contains("0.5.0"));
 }
 
 /// A word of each page's record at a time: the two programs agree.

@@ -22,8 +22,8 @@ pub type Block = [u8; BLOCK_BYTES];
 #[derive(Clone, Copy, Debug, PartialEq, Eq, Hash)]
 pub enum BadImage {
     /// 25: the first bad block, by its place from 0: by how many good ones came
-    /// before. It is changed, short, out of turn, of another image, missing or one
-    /// too many.
+    /// before. It is changed, short, out of turn, of another image, missing, one too
+    /// many, or of a version before 0.5.0.
     Block(u32),
     /// 26: every block is good, and acceptance says no.
     NotAccepted,

@@ -1,13 +1,13 @@
 //! Every size and every place of the lent words, each said once.
 
 /// F at most.
-pub const MOST_FRAMES: u32 = 4096;
+pub const MOST_FRAMES: u32 = 16384;
 /// n at most.
-pub const MOST_PAGES: u32 = 256;
+pub const MOST_PAGES: u32 = 1024;
 /// Words in a frame, a page or a table.
 pub const FRAME_WORDS: usize = 1024;
-/// Words in the ledger's header.
-pub const HEADER_WORDS: usize = 32;
+/// Words in the ledger's header, on every box.
+pub const HEADER_WORDS: usize = 64;
 /// Words in the record of a page, of a call and of an answer.
 pub const RECORD_WORDS: usize = 32;
 /// Words in the key, in a hash and in a MAC.
@@ -85,8 +85,11 @@ pub mod block {
     pub const NUMBER: usize = 0;
     /// The block's index, from 0.
     pub const INDEX: usize = 1;
-    /// How many blocks the image has.
+    /// How many blocks the image has, and [`TOTAL_FROM`] more.
     pub const TOTAL: usize = 2;
+    /// What word [`TOTAL`] says above the number of blocks. Images of versions before
+    /// 0.5.0 have none of it there, and are refused by that.
+    pub const TOTAL_FROM: u32 = 65536;
     /// Where the payload starts.
     pub const PAYLOAD: usize = 3;
     /// The check: the CRC-32 of all bytes before it.

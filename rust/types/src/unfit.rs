@@ -25,7 +25,7 @@ pub enum List {
 /// # extern crate types as monitor;
 /// use monitor::{List, Machine, Rule, Unfit};
 ///
-/// let (memory, ledger) = ([0; 5], [0; 288]);
+/// let (memory, ledger) = ([0; 5], [0; 320]);
 /// let unfit = Unfit::of_accepts(Machine::BOX_A, &memory, &ledger).unwrap();
 /// assert_eq!(unfit, Unfit::Length { list: List::Memory, found: 5, needed: 16384 });
 /// assert_eq!(unfit.to_string(), "the memory: expected 16384 words, found 5 (18)");

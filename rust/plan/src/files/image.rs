@@ -14,6 +14,8 @@ use types::Machine;
 
 /// Bytes in a word, the lowest first.
 const WORD: usize = 4;
+/// What is found in place of an image that this version can read.
+const OLDER: &str = "found one of an older version";
 /// The largest box.
 const LARGEST: Machine =
     Machine { frames: MOST_FRAMES, secure: 1, pages: MOST_PAGES, monitor: 0, monitors: 1 };
@@ -58,7 +60,12 @@ fn load(file: &OsStr, machine: Machine) -> Result<Vec<u8>, Complaint> {
     if !kind.is_file() {
         return Err(refused(endless(kind).unwrap_or("it is no plain file")));
     }
-    bytes(Path::new(file), machine).map_err(unread)
+    let bytes = bytes(Path::new(file), machine).map_err(unread)?;
+    if is_older(&bytes) {
+        let anew = "it cannot be read, and its box's state has to be booted anew";
+        return Err(format!("--load: {}: expected a saved image, {OLDER}: {anew}", shown(file)));
+    }
+    Ok(bytes)
 }
 
 /// The bytes of a file, up to a block more than an image of this box has.
@@ -112,6 +119,7 @@ fn stands(path: &Path) -> Result<Vec<u8>, String> {
     }
     match bytes(path, LARGEST) {
         Ok(bytes) if bytes.is_empty() || is_image(&bytes) => Ok(bytes),
+        Ok(bytes) if is_older(&bytes) => Err(format!("{OLDER}, which is not overwritten")),
         Ok(_) => other(),
         Err(fault) => Err(format!("and it cannot be read: {}", reason(&fault))),
     }
@@ -129,12 +137,25 @@ fn next(file: &OsStr, before: u32) -> Result<u32, Complaint> {
 /// Whether these are all the blocks of one image, in order, by what their first
 /// words say. Whether they are good is not asked: they are to be overwritten.
 fn is_image(bytes: &[u8]) -> bool {
-    let (blocks, number) = (bytes.chunks_exact(BLOCK_BYTES), word(bytes, block::NUMBER));
-    let (total, whole) = (blocks.len() as u32, blocks.remainder().is_empty());
+    let (blocks, rest) = (bytes.len() / BLOCK_BYTES, bytes.len() % BLOCK_BYTES);
+    rest == 0 && total_word(bytes) == Some(block::TOTAL_FROM + blocks as u32)
+}
+
+/// Whether an older version wrote these blocks, which said the bare total. They
+/// need not be all: what is read is bounded by the box.
+fn is_older(bytes: &[u8]) -> bool {
+    total_word(bytes).is_some_and(|word| word > 0 && word < block::TOTAL_FROM)
+}
+
+/// What the blocks say of their total, where they say one thing, have one number and
+/// stand in order.
+fn total_word(bytes: &[u8]) -> Option<u32> {
+    let first = bytes.get(..BLOCK_BYTES)?;
+    let (number, total) = (word(first, block::NUMBER), word(first, block::TOTAL));
     let head =
         |block: &[u8]| [block::NUMBER, block::INDEX, block::TOTAL].map(|place| word(block, place));
-    let own = |(index, block)| head(block) == [number, Some(index), Some(total)];
-    whole && (0..).zip(blocks).all(own)
+    let own = |(index, block)| head(block) == [number, Some(index), total];
+    total.filter(|_| (0..).zip(bytes.chunks_exact(BLOCK_BYTES)).all(own))
 }
 
 /// The number of an image; what is none has none.
