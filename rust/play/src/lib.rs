@@ -4,10 +4,11 @@
 //! - [`player`] plays a plan in batches, or call by call for those who watch.
 //! - [`run`] prints answers, [`measure`] what spaces measure,
 //!   [`shift`] the worked shift.
-//! - [`picture`] and [`svg`] draw the ledger, [`why`] says why a state is not
-//!   accepted.
+//! - [`picture`] and [`svg`] draw the ledger, that of a large box folded.
+//! - [`why`] says why a state is not accepted.
 //! - [`image`] saves a box and restores it, [`mod@write`] writes whole files.
 
+mod fold;
 pub mod image;
 pub mod measure;
 pub mod picture;

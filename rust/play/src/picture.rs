@@ -1,6 +1,7 @@
-//! A picture of the ledger: a cell for each page, by its type and its owner.
+//! A picture of the ledger: a cell for each page, by its type and its owner. That
+//! of a large box is folded: a line for all pages of a type that one space owns.
 
-use crate::COLUMNS;
+use crate::{fold, COLUMNS};
 use monitor::{Ledger, Page, State};
 
 /// Pages in a row of the picture, at most.
@@ -16,6 +17,15 @@ struct Cell {
 
 /// The picture, in colour or plain.
 pub fn picture(ledger: &Ledger, colour: bool) -> String {
+    let shown = match fold::folds(ledger) {
+        true => fold::text::folded(ledger, colour),
+        false => cells(ledger, colour),
+    };
+    shown + &header(ledger)
+}
+
+/// A cell for each page, in rows.
+fn cells(ledger: &Ledger, colour: bool) -> String {
     let cells: Vec<Cell> = (0..ledger.page_count()).map(|page| cell(ledger, page)).collect();
     let longest = cells.iter().flat_map(|cell| &cell.lines).map(String::len).max();
     let width = longest.unwrap_or(0).max(WIDTH);
@@ -29,7 +39,7 @@ pub fn picture(ledger: &Ledger, colour: bool) -> String {
             text += "\n";
         }
     }
-    text + &header(ledger)
+    text
 }
 
 /// How many cells of this width stand in a row, with a bar between two.

@@ -3,13 +3,18 @@
 
 mod drawn;
 
-use drawn::{count, number, well_formed, Numbers};
-use monitor::layout::{record_of, HEADER_WORDS, MOST_PAGES, RECORD_WORDS};
+use drawn::pages::{each_once, on_cards};
+use drawn::{number, well_formed, Numbers};
+use monitor::layout::{
+    record_of, FRAME_WORDS, HEADER_WORDS, MOST_FRAMES, MOST_PAGES, RECORD_WORDS,
+};
 use monitor::Machine;
 use play::svg;
 
 const LARGEST: Machine =
-    Machine { frames: 4096, secure: 3840, pages: MOST_PAGES, monitor: 0, monitors: 1 };
+    Machine { frames: MOST_FRAMES, secure: 1, pages: MOST_PAGES, monitor: 0, monitors: 1 };
+/// As far as the secure frames go.
+const WORDS: usize = FRAME_WORDS * (1 + MOST_PAGES as usize);
 
 /// A ledger whose records start with what is given for each page.
 fn ledger(record: impl Fn(u32) -> [u32; 4]) -> Vec<u32> {
@@ -23,7 +28,7 @@ fn ledger(record: impl Fn(u32) -> [u32; 4]) -> Vec<u32> {
 fn within_bounds(memory: &[u32], ledger: &[u32]) {
     let drawn = svg::of_words(LARGEST, memory, ledger);
     well_formed(&drawn);
-    assert_eq!(count(&drawn, "page "), MOST_PAGES as usize);
+    each_once(on_cards(&drawn), MOST_PAGES);
     assert!(drawn.len() < 600_000, "{} bytes", drawn.len());
     let (high, wide) = (number(&drawn, "height"), number(&drawn, "width"));
     assert!(high < 32_767.0 && wide < 2_000.0, "{wide} by {high}");
@@ -32,12 +37,10 @@ fn within_bounds(memory: &[u32], ledger: &[u32]) {
 /// Memory full of slots: of insecure frames, of pages, of anything.
 fn memories() -> [Vec<u32>; 3] {
     let mut numbers = Numbers(3);
-    let mut all = |word: &dyn Fn(u32) -> u32| {
-        (0..LARGEST.memory_words()).map(|_| word(numbers.next())).collect()
-    };
+    let mut all = |word: &dyn Fn(u32) -> u32| (0..WORDS).map(|_| word(numbers.next())).collect();
     [
-        all(&|any| (1 + any % 3800) << 12 | 3),
-        all(&|any| (3840 + any % 256) << 12 | 7),
+        all(&|any| (1025 + any % 15_000) << 12 | 3),
+        all(&|any| (1 + any % 1024) << 12 | 7),
         all(&|any| any << 1),
     ]
 }
@@ -46,12 +49,13 @@ fn memories() -> [Vec<u32>; 3] {
 #[test]
 fn tables_and_spaces() {
     for memory in memories() {
-        for tables in [0, 1, 10, 14, 25, 50, 100, 128, 200, 254, 255] {
+        for tables in [0, 1, 50, 256, 992, 1023] {
+            let last = MOST_PAGES - 1;
             within_bounds(
                 &memory,
                 &ledger(|page| match page {
-                    0 => [3, 255, 0, 0],
-                    _ if page < tables => [4, 255, page, 0],
+                    0 => [3, last, 0, 0],
+                    _ if page < tables => [4, last, page % 256, 0],
                     _ => [1, page, 0, 2],
                 }),
             );
@@ -59,15 +63,18 @@ fn tables_and_spaces() {
     }
 }
 
-/// A space for every three, and a table and another page for each.
+/// Spaces of so many pages: a first level, tables, and pages of one kind.
 #[test]
-fn a_family_for_every_three() {
+fn families_of_one_size() {
     for memory in memories() {
-        for kind in [2, 3, 5, 6] {
-            let record = |page| match page % 3 {
-                0 => [1, page, page + 1, 2],
-                1 => [4, page - 1, page, 0],
-                _ => [kind, page - 2, 1, 0],
+        for (size, kind) in [(3, 2), (4, 5), (8, 6), (32, 2), (33, 5), (256, 3), (1024, 2)] {
+            let record = |page| match (page % size, page - page % size) {
+                (0, space) => [1, space, space + 1, 2],
+                (1, space) => [3, space, 0, 0],
+                (place, space) if place < 2 + size / 16 => [4, space, place, 0],
+                (place, space) => {
+                    [kind, space, if kind % 3 == 0 { 0 } else { 4096 * place + 7 }, 0]
+                }
             };
             within_bounds(&memory, &ledger(record));
         }
@@ -113,7 +120,7 @@ fn numbers_that_do_not_fit() {
         [[0; 5], [most; 5], [1, 0, 0, 0, 0], [most, 0, most, 0, most], [16, most, 8, 0, 2]]
     {
         let machine = Machine { frames, secure, pages, monitor, monitors };
-        for words in [0, 31, 32, 100, 4096] {
+        for words in [0, HEADER_WORDS - 1, HEADER_WORDS, 100, 4096] {
             let drawn = svg::of_words(machine, &vec![4097; words], &vec![1; words]);
             well_formed(&drawn);
             assert!(drawn.len() < 600_000 && number(&drawn, "width") < 2_000.0);

@@ -24,7 +24,9 @@ fn drawn_of(spaces: u32, frames: impl Fn(u32) -> Vec<u32>) -> String {
         let space = 3 * place;
         calls += &format!("2 {space} {}; 4 {space} {} {place};", space + 1, space + 2);
         for (slot, frame) in (0..).zip(frames(place)) {
-            calls += &format!("7 {space} {} {frame};", (place << 22) + (slot << 12) + 3);
+            // No two slots in a row have the same rights: else they share an arrow.
+            let map = (place << 22) + (slot << 12) + 1 + slot % 2 * 2;
+            calls += &format!("7 {space} {map} {frame};");
         }
     }
     let drawn = svg::svg(&played(BOX, &calls));

@@ -4,7 +4,7 @@
 mod boxes;
 mod drawn;
 
-use boxes::played;
+use boxes::{full, messy, played, LARGEST};
 use drawn::marks::nothing_overlaps;
 use drawn::Numbers;
 use monitor::layout::record_of;
@@ -39,6 +39,14 @@ fn states_of_box_a() {
          39 0 0 0 0 0 0 0 0 0 0 0 0 0 0 0 0 0; 11 0; 12 2; 12 5; 2 2 5;",
     ] {
         nothing_overlaps(&svg::svg(&played(Machine::BOX_A, calls)));
+    }
+}
+
+/// Folded, and where nothing folds.
+#[test]
+fn the_largest_box() {
+    for calls in ["", &full(), &messy()] {
+        nothing_overlaps(&svg::svg(&played(LARGEST, calls)));
     }
 }
 
@@ -85,10 +93,38 @@ fn any_tables() {
 /// Records out of order: the widest owners there are.
 #[test]
 fn records_out_of_order() {
-    let mut bench = played(Machine::BOX_A, "2 0 1;");
-    for page in 2..8 {
-        let record = &mut bench.ledger_mut().words_mut()[record_of(page)];
-        record[..3].copy_from_slice(&[page, u32::MAX, u32::MAX]);
+    for (machine, last) in [(Machine::BOX_A, 8), (LARGEST, 1024)] {
+        let mut bench = played(machine, "2 0 1;");
+        for page in 2..last {
+            let record = &mut bench.ledger_mut().words_mut()[record_of(page)];
+            // At the end two spares in a row, with the highest numbers.
+            let kind = if page < 1022 { page % 8 } else { 6 };
+            let used = if kind == 6 { 2 } else { 3 };
+            record[..used].copy_from_slice(&[kind, u32::MAX, u32::MAX][..used]);
+        }
+        nothing_overlaps(&svg::svg(&bench));
     }
-    nothing_overlaps(&svg::svg(&bench));
+}
+
+/// More spaces than have blocks, each with pages of every type at high numbers.
+#[test]
+fn many_spaces() {
+    let mut bench = played(LARGEST, "");
+    let ledger = bench.ledger_mut().words_mut();
+    for page in 0..1024 {
+        let (space, high) = (page - page % 8, (1 << 30) - 4096 * (1 + page % 5) + 7);
+        let record = match page % 8 {
+            0 => [1, page, page + 1, page / 8 % 3],
+            1 => [3, space, 0, 0],
+            2 => [4, space, page % 256, 0],
+            3 => [2, space, high, page / 8 % 2],
+            4 | 5 => [5, space, high, 0],
+            _ => [6, space, 0, 0],
+        };
+        ledger[record_of(page)][..4].copy_from_slice(&record);
+    }
+    ledger[0] = 1 + 1003;
+    let drawn = svg::svg(&bench);
+    assert!(drawn.contains("class=\"pages space runs\"") && drawn.contains(">1000 space<"));
+    nothing_overlaps(&drawn);
 }

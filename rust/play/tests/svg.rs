@@ -4,16 +4,15 @@
 mod boxes;
 mod drawn;
 
-use boxes::played;
-use drawn::{count, says, well_formed, Numbers};
+use boxes::{full, messy, played, LARGEST};
+use drawn::pages::{each_once, on_cards};
+use drawn::{count, number, says, well_formed, Numbers};
 use monitor::layout::{record_of, MOST_PAGES};
 use monitor::{Machine, Monitor};
 use play::svg;
 
 /// The worked shift up to where its thread runs.
 const SHIFT: &str = "2 0 1; 4 0 2 0; 6 0 3 4099 5; 3 0 4 4096; 8 0; 9 4 7 8 9;";
-const LARGEST: Machine =
-    Machine { frames: 4096, secure: 100, pages: MOST_PAGES, monitor: 10, monitors: 4 };
 
 fn drawn(bench: &Monitor) -> String {
     let drawn = svg::svg(bench);
@@ -56,6 +55,13 @@ fn the_middle_of_the_shift() {
     ] {
         assert!(says(&drawn, words), "{words}");
     }
+}
+
+/// To the letter: small boxes are drawn as they always were.
+#[test]
+fn the_sum_of_a_small_picture() {
+    let marked = plan::files::marked(&drawn(&played(Machine::BOX_A, SHIFT)));
+    assert!(marked.starts_with("<!-- drawn by ./box f8780269294aeebb -->\n"), "{marked}");
 }
 
 /// Whoever opens it finds a name, words for each kind of mark, and a background.
@@ -123,25 +129,66 @@ fn a_stopped_space_with_pages_removed() {
     assert_eq!(count(&first_alone, "arrow out"), 0);
 }
 
-/// A table of 1,024 insecure frames and 240 data pages beside it.
+/// A table of 1,024 insecure frames and 1,000 data pages beside it: a row each.
 #[test]
-fn a_full_box() {
+fn long_runs() {
     let mut calls = String::from("2 0 1; 4 0 2 0; 4 0 3 255;");
-    for page in 4..250 {
+    for page in 4..1004 {
         calls += &format!("6 0 {page} {} 2000;", page * 4096 + 7);
     }
     for slot in 0..1024u32 {
-        calls += &format!("7 0 {} {};", (255 << 22) + slot * 4096 + 3, 400 + slot);
+        calls += &format!("7 0 {} {};", (255 << 22) + slot * 4096 + 3, 2400 + slot);
     }
-    for page in 250..256 {
+    for page in 1004..1020 {
         calls += &format!("5 0 {page};");
     }
     let drawn = drawn(&played(LARGEST, &calls));
-    assert_eq!((count(&drawn, "page "), count(&drawn, "page data")), (256, 246));
-    assert_eq!((count(&drawn, "arrow out"), count(&drawn, "arrow")), (12, 1 + 2 + 246 + 12));
-    for words in ["1,024 slots used", "and 1,012 more", "frames 412-1423", "1069547520 rw-"] {
+    each_once(on_cards(&drawn), MOST_PAGES);
+    assert_eq!((count(&drawn, "arrow out"), count(&drawn, "arrow")), (1, 1 + 2 + 1 + 1));
+    for words in [
+        "4-1003 data of 0",
+        "1000 pages",
+        "frames 104-1103",
+        "16384 rwx",
+        "to 4108288",
+        "1,024 slots used",
+        "frames 2400-3423",
+        "1069547520 rw-",
+        "to 1073737728",
+        "spare, 16 pages: 1004-1019",
+        "1020-1023 free",
+    ] {
         assert!(says(&drawn, words), "{words}");
     }
+}
+
+/// Four spaces: the frames that they share are told from those that are one's own.
+#[test]
+fn a_full_box() {
+    let drawn = drawn(&played(LARGEST, &full()));
+    each_once(on_cards(&drawn), MOST_PAGES);
+    assert_eq!((count(&drawn, "panel block"), count(&drawn, "pages data")), (4, 8));
+    assert_eq!(count(&drawn, "page thread"), 4);
+    for class in ["page thread runs", "page thread suspended", "pages spare"] {
+        assert_eq!(count(&drawn, class), 1, "{class}");
+    }
+    // The sixteen of all four; then the first thirty-two of the first space, eight
+    // that the second has too, and so on.
+    for frames in ["3000-3015", "4000-4031", "4032-4039", "4040-4063", "4064-4071"] {
+        assert_eq!(drawn.matches(&format!(">frames {frames}<")).count(), 1, "{frames}");
+    }
+    assert_eq!(count(&drawn, "arrow out"), 4 + 1 + 2 + 1 + 2 + 1 + 2 + 1);
+    assert!(drawn.len() < 30_000 && number(&drawn, "height") < 2_000.0);
+}
+
+/// Where nothing folds some is drawn, and all is told.
+#[test]
+fn a_messy_box() {
+    let drawn = drawn(&played(LARGEST, &messy()));
+    each_once(on_cards(&drawn), MOST_PAGES);
+    assert_eq!((count(&drawn, "page thread runs"), count(&drawn, "page data")), (1, 3 * 24));
+    assert_eq!(drawn.matches(">Pages that have no room above<").count(), 3);
+    assert!(drawn.len() < 80_000 && number(&drawn, "height") < 5_000.0);
 }
 
 /// A stopped space's tables may hold anything.
@@ -186,13 +233,16 @@ fn records_out_of_order() {
     assert!(says(&drawn, "5 ?") && says(&drawn, "6 spare of 7"));
 }
 
-/// Words drawn at random: always well-formed, each page once.
+/// Words drawn at random, on a small box and on one that is folded: always
+/// well-formed, each page once.
 #[test]
 fn any_words() {
-    let machine = Machine { frames: 40, secure: 6, pages: 32, monitor: 0, monitors: 2 };
+    let small = Machine { frames: 40, secure: 6, pages: 32, monitor: 0, monitors: 2 };
+    let large = Machine { frames: 240, pages: 200, ..small };
     let mut numbers = Numbers(1);
     let mut next = || numbers.next() >> 7;
     for round in 0..60 {
+        let machine = if round % 4 == 3 { large } else { small };
         let mut ledger = vec![0; machine.ledger_words()];
         for page in 0..machine.pages {
             let record = &mut ledger[record_of(page)];
@@ -205,7 +255,7 @@ fn any_words() {
         let words = memory.len() * (round % 3) / 2;
         let drawn = svg::of_words(machine, &memory[..words], &ledger);
         well_formed(&drawn);
-        assert_eq!(count(&drawn, "page "), 32);
+        each_once(on_cards(&drawn), machine.pages);
         assert_eq!(drawn, svg::of_words(machine, &memory[..words], &ledger));
     }
 }

@@ -11,6 +11,8 @@ pub struct Family {
     pub first: Result<u32, String>,
     /// Its second-level tables, those that the first level names first.
     pub tables: Vec<Table>,
+    /// Those for which there is no room.
+    pub told: Vec<Table>,
     /// Slots of the first level that name no table of its own, as far as they
     /// are drawn.
     pub astray: Vec<Astray>,
@@ -18,8 +20,13 @@ pub struct Family {
     pub more: usize,
     /// Its data pages that no slot names.
     pub loose: Vec<u32>,
-    /// Its threads, its spare pages, and other first-level tables.
+    /// Its threads; its spare pages and other first-level tables too, where they
+    /// are drawn one by one.
     pub rest: Vec<u32>,
+    /// Its spare pages, where they are not in the rest.
+    pub spare: Vec<u32>,
+    /// Its other pages that are told in words.
+    pub listed: Vec<u32>,
 }
 
 /// A table, and the index where the first level names it.
@@ -35,23 +42,50 @@ pub struct Table {
     pub index: Option<u32>,
     /// The slots that are drawn.
     pub drawn: Vec<Slot>,
-    /// Where the others lead that are not empty.
-    pub hidden: Vec<Target>,
+    /// The others that are not empty.
+    pub hidden: Vec<Slot>,
 }
 
-/// A slot that is not empty.
+/// A slot that is not empty; on a large box, slots in a row that lead on from
+/// each other.
 pub struct Slot {
-    /// Address and rights.
-    pub map: String,
+    /// Its number, and its word.
+    pub first: u32,
+    pub word: u32,
+    pub count: u32,
     pub target: Target,
 }
 
-/// Where a slot leads.
+/// Where a slot leads: the first of a run.
 pub enum Target {
-    /// To a data page of the space's own.
-    Data(u32),
+    /// To a data page of the space's own; all of the run.
+    Data(Vec<u32>),
     /// To an insecure frame.
     Insecure(u32),
-    /// Elsewhere, in words.
-    Astray(String),
+    /// To a page that is not its own, or no data page.
+    Page(u32),
+    /// Elsewhere: its word leads to no page and to no insecure frame.
+    Astray(u32),
+}
+
+impl Table {
+    /// All slots that are not empty.
+    pub fn slots(&self) -> impl Iterator<Item = &Slot> {
+        self.drawn.iter().chain(&self.hidden)
+    }
+}
+
+impl Slot {
+    /// The data pages of the space's own that it leads to.
+    pub fn data(&self) -> &[u32] {
+        match &self.target {
+            Target::Data(pages) => pages,
+            _ => &[],
+        }
+    }
+}
+
+/// How many slots these are.
+pub fn count<'s>(slots: impl IntoIterator<Item = &'s Slot>) -> usize {
+    slots.into_iter().map(|slot| slot.count as usize).sum()
 }

@@ -51,7 +51,8 @@ pub fn title(scene: &Scene) -> String {
 /// Title and legend; how high and how wide they are.
 pub fn draw(sheet: &mut Sheet, title: &str, scene: &Scene) -> (u32, u32) {
     sheet.words("title", LEFT, 32, title);
-    sheet.words("", LEFT, 54, header(&scene.ledger).trim_end());
+    let folded = if scene.folded { "; like pages in a row share a card" } else { "" };
+    sheet.words("", LEFT, 54, &format!("{}{folded}", header(&scene.ledger).trim_end()));
     let patch = |sheet: &mut Sheet, class: &str, x, y| {
         sheet.card(&format!("sample {class}"), Area { x, y, w: 22, h: 16 }, &[]);
         22

@@ -1,12 +1,13 @@
 //! The insecure frames, on the right: those that arrows lead to on cards of their
 //! own, the others in ranges under them.
 
-use super::family::{Family, Target};
+use super::family::{Family, Table, Target};
 use super::layout::{DATA, DATA_WIDTH, GAP, MID, PAD, RIGHT};
 use super::numbers::{frames, grouped};
 use super::routes::{Exit, Routes, Way};
 use super::scene::Scene;
 use super::sheet::{Area, Sheet, CARD};
+use crate::fold::ranges;
 use std::collections::BTreeSet;
 
 /// The width of the panel, and of its cards.
@@ -32,14 +33,14 @@ impl Insecure {
         for way in &routes.ways {
             sheet.arrow("arrow out", way.exit.ink, &points(way, left + PAD));
         }
-        for Exit { frame, from, ink } in &routes.told {
+        for Exit { frame, count, from, ink } in &routes.told {
             sheet.arrow("arrow told", *ink, &[*from, (DATA, from.1)]);
             let area = Area { x: DATA, y: from.1 - MID, w: DATA_WIDTH, h: CARD };
-            sheet.card("told insecure", area, &[frames(*frame, 1)]);
+            sheet.card("told insecure", area, &[frames(*frame, *count)]);
         }
         for card in &routes.cards {
             let area = Area { x: left + PAD, y: card.top, w: INNER, h: card.height };
-            sheet.card("frame insecure", area, &[frames(card.frame, 1)]);
+            sheet.card("frame insecure", area, &[frames(card.frame, card.count)]);
             if card.more > 0 {
                 sheet.aside(area, &format!("and {} more", grouped(card.more)));
             }
@@ -49,9 +50,10 @@ impl Insecure {
 
     /// Draws the frames to which no arrow leads; where they end.
     pub fn others(&self, sheet: &mut Sheet, scene: &Scene, families: &[Family], top: u32) -> u32 {
-        let drawn: BTreeSet<u32> = self.routes.cards.iter().map(|card| card.frame).collect();
-        let told = self.routes.told.iter().map(|exit| exit.frame);
-        let named: BTreeSet<u32> = told.chain(hidden(families)).collect();
+        let cards = self.routes.cards.iter().map(|card| (card.frame, card.count));
+        let drawn: BTreeSet<u32> = cards.flat_map(each).collect();
+        let told = self.routes.told.iter().map(|exit| (exit.frame, exit.count));
+        let named: BTreeSet<u32> = told.chain(hidden(families)).flat_map(each).collect();
         let without = scene.insecure().filter(|frame| !drawn.contains(frame));
         let (told, idle): (Vec<u32>, Vec<u32>) = without.partition(|frame| named.contains(frame));
         let end = self.routes.cards.last().map_or(0, |card| card.top + card.height + GAP);
@@ -102,23 +104,17 @@ fn points(way: &Way, x: u32) -> Vec<(u32, u32)> {
     vec![from, (track, from.1), (track, port), (x, port)]
 }
 
-/// The frames of slots that have no row.
-fn hidden(families: &[Family]) -> impl Iterator<Item = u32> + '_ {
-    let tables = families.iter().flat_map(|family| &family.tables);
-    tables.flat_map(|table| &table.hidden).filter_map(|target| match target {
-        Target::Insecure(frame) => Some(*frame),
-        _ => None,
-    })
+/// So many frames from one on.
+fn each((first, count): (u32, u32)) -> std::ops::Range<u32> {
+    first..first + count
 }
 
-/// Rising numbers as ranges: the first of each, and how many.
-fn ranges(numbers: &[u32]) -> Vec<(u32, u32)> {
-    let mut found: Vec<(u32, u32)> = Vec::new();
-    for number in numbers {
-        match found.last_mut() {
-            Some((first, count)) if *first + *count == *number => *count += 1,
-            _ => found.push((*number, 1)),
-        }
-    }
-    found
+/// The frames of slots that have no row: the first of each run, and how many.
+fn hidden(families: &[Family]) -> impl Iterator<Item = (u32, u32)> + '_ {
+    let hidden = families.iter().flat_map(|family| &family.tables).flat_map(|table| &table.hidden);
+    let told = families.iter().flat_map(|family| &family.told).flat_map(Table::slots);
+    hidden.chain(told).filter_map(|slot| match slot.target {
+        Target::Insecure(frame) => Some((frame, slot.count)),
+        _ => None,
+    })
 }

@@ -12,6 +12,7 @@ mod numbers;
 mod routes;
 mod scene;
 mod sheet;
+mod slots;
 mod space;
 mod tables;
 mod words;
@@ -38,12 +39,14 @@ pub fn of_words(machine: Machine, memory: &[u32], ledger: &[u32]) -> String {
     let families = scene.families();
     let mut y = if families.is_empty() { top } else { head::headings(&mut sheet, top) };
     let mut exits = Vec::new();
-    for (ink, family) in families.iter().enumerate() {
+    let (blocks, further) = families.split_at(families.len().min(scene.bounds.spaces));
+    for (ink, family) in blocks.iter().enumerate() {
         let mut block = Block { sheet: &mut sheet, scene: &scene, exits: &mut exits, ink };
         y = space::draw(&mut block, family, y) + GAP;
     }
     let panel = Insecure::draw(&mut sheet, &exits);
-    let end = apart::draw(&mut sheet, &scene, y);
+    let under = apart::spaces(&mut sheet, &scene, further, y);
+    let end = apart::draw(&mut sheet, &scene, under);
     let free = y.max(top + head::HEADING);
     let bottom = panel.others(&mut sheet, &scene, &families, free).max(end);
     let right = panel.panel(&mut sheet, top, bottom);

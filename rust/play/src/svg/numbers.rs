@@ -22,6 +22,11 @@ pub fn frames(first: u32, count: u32) -> String {
     span("frame", first, count)
 }
 
+/// Columns of small words on a card of this width.
+pub fn columns(width: u32) -> usize {
+    ((width - 16) * 3 / 20) as usize
+}
+
 /// How wide these words are, a little generously.
 pub fn words_width(words: &str) -> u32 {
     words.chars().count() as u32 * 15 / 2

@@ -20,6 +20,8 @@ const BETWEEN: u32 = 40;
 #[derive(Clone, Copy)]
 pub struct Exit {
     pub frame: u32,
+    /// How many frames from it on.
+    pub count: u32,
     pub from: (u32, u32),
     pub ink: usize,
 }
@@ -27,6 +29,7 @@ pub struct Exit {
 /// The card of a frame to which arrows lead.
 pub struct Card {
     pub frame: u32,
+    pub count: u32,
     pub top: u32,
     pub height: u32,
     /// Arrows that are told.
@@ -88,7 +91,7 @@ impl Routes {
     fn place(&mut self, exits: &[Exit], levels: &BTreeSet<u32>) {
         let under = self.cards.last().map_or(0, |card| card.top + card.height + GAP / 2);
         let (drawn, told) = exits.split_at(exits.len().min(MOST_PORTS));
-        let Exit { frame, from: (_, first), .. } = drawn[0];
+        let Exit { frame, count, from: (_, first), .. } = drawn[0];
         let top = under.max(first - MID);
         let mut port = if top + MID == first { first } else { clear(top + MID, levels) };
         let mut height = 0;
@@ -97,7 +100,7 @@ impl Routes {
             height = port + MID - top;
             port = clear(port + PITCH, levels);
         }
-        self.cards.push(Card { frame, top, height, more: told.len() });
+        self.cards.push(Card { frame, count, top, height, more: told.len() });
         self.told.extend(told);
     }
 

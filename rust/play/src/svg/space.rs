@@ -5,8 +5,10 @@
 use super::block::Block;
 use super::family::Family;
 use super::layout::{FIRST, GAP, LEFT, MID, PAD, RIGHT, SPACE, WIDTH};
-use super::sheet::{Area, CARD};
+use super::numbers::columns;
+use super::sheet::{card_height, Area, CARD};
 use super::tables;
+use super::words::listed;
 use monitor::State;
 
 /// Threads and spare pages in a row.
@@ -18,8 +20,15 @@ pub fn draw(block: &mut Block, family: &Family, top: u32) -> u32 {
     let space = block.page(family.number, SPACE, inner, WIDTH);
     let first = first(block, family, inner);
     let tables = tables::draw(block, family, inner);
-    let loose = tables::loose(block, &family.loose, tables);
-    let bottom = grid(block, &family.rest, space.max(first).max(loose)) - GAP + PAD;
+    let under = space.max(first);
+    let y = match block.scene.folded {
+        true => told(block, family, tables.max(under)),
+        false => {
+            let loose = tables::loose(block, &family.loose, tables);
+            grid(block, &family.rest, loose.max(under))
+        }
+    };
+    let bottom = y - GAP + PAD;
     let class = match family.space.state {
         State::Stopped => "panel block stopped",
         _ => "panel block",
@@ -41,6 +50,29 @@ fn first(block: &mut Block, family: &Family, y: u32) -> u32 {
             y + CARD + GAP
         }
     }
+}
+
+/// On a large box: threads on cards, other pages in words; where the next may
+/// stand.
+fn told(block: &mut Block, family: &Family, top: u32) -> u32 {
+    let y = grid(block, &family.rest, top);
+    let y = list(block, "pages spare", "Spare pages", &family.spare, y);
+    let y = list(block, "pages data", "Data that no slot names", &family.loose, y);
+    list(block, "pages listed", "Pages that have no room above", &family.listed, y)
+}
+
+/// Pages in words, on a card of the block's width.
+fn list(block: &mut Block, class: &str, title: &str, pages: &[u32], y: u32) -> u32 {
+    const INNER: u32 = RIGHT - LEFT - 2 * PAD;
+    if pages.is_empty() {
+        return y;
+    }
+    let (pages, running) = (block.scene.numbered(pages), block.scene.ledger.running());
+    let mut lines = vec![title.to_string()];
+    lines.extend(listed(&pages, running, columns(INNER)));
+    let h = card_height(lines.len());
+    block.sheet.card(class, Area { x: LEFT + PAD, y, w: INNER, h }, &lines);
+    y + h + GAP
 }
 
 /// Pages in rows; where the next may stand.

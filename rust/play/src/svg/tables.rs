@@ -2,11 +2,15 @@
 //! each slot on a row of its own.
 
 use super::block::Block;
-use super::family::{Family, Slot, Table, Target};
+use super::family::{count, Family, Slot, Table, Target};
 use super::layout::{DATA, DATA_WIDTH, FIRST, GAP, MID, ROW, TABLE, WIDTH};
-use super::numbers::grouped;
+use super::numbers::{columns, grouped};
 use super::routes::Exit;
 use super::sheet::{card_height, Area, CARD};
+use super::words::{data_words, what};
+
+/// From a row with two addresses to the next.
+const RUN: u32 = ROW + 8;
 
 /// The column of tables, each with its rows; where it ends.
 pub fn draw(block: &mut Block, family: &Family, top: u32) -> u32 {
@@ -17,6 +21,7 @@ pub fn draw(block: &mut Block, family: &Family, top: u32) -> u32 {
         }
         y = draw_table(block, table, y);
     }
+    y = block.more(TABLE, y, family.told.len());
     for (index, what) in &family.astray {
         branch(block, "arrow astray", &mut trunk, y, *index);
         block.ghost(TABLE, y, WIDTH, what);
@@ -41,12 +46,11 @@ fn branch(block: &mut Block, class: &str, trunk: &mut Vec<(u32, u32)>, y: u32, i
 fn draw_table(block: &mut Block, table: &Table, y: u32) -> u32 {
     let mut row = y;
     for slot in &table.drawn {
-        draw_slot(block, slot, row);
-        row += ROW;
+        row = draw_slot(block, table.page, slot, row);
     }
-    row = block.more(TABLE + WIDTH + 8, row, table.hidden.len());
+    row = block.more(TABLE + WIDTH + 8, row, count(&table.hidden));
     let (class, mut lines) = block.words(table.page);
-    let used = table.drawn.len() + table.hidden.len();
+    let used = count(table.slots());
     lines.push(match used {
         1 => "1 slot used".to_string(),
         _ => format!("{} slots used", grouped(used)),
@@ -56,22 +60,45 @@ fn draw_table(block: &mut Block, table: &Table, y: u32) -> u32 {
     row.max(y + h + GAP)
 }
 
-fn draw_slot(block: &mut Block, slot: &Slot, y: u32) {
+/// A row; where the next may stand.
+fn draw_slot(block: &mut Block, table: u32, slot: &Slot, y: u32) -> u32 {
     let (from, to) = ((TABLE + WIDTH, y + MID), (DATA, y + MID));
-    block.sheet.words("label", from.0 + 8, from.1 - 5, &slot.map);
+    let (first, last) = block.scene.maps(table, slot);
+    block.sheet.words("label", from.0 + 8, from.1 - 5, &first);
+    last.iter().for_each(|last| block.sheet.words("label", from.0 + 8, from.1 + 11, last));
     match &slot.target {
-        Target::Data(page) => {
+        Target::Data(pages) => {
             block.sheet.arrow("arrow", block.ink, &[from, to]);
-            draw_data(block, *page, y);
+            return draw_run(block, pages, y);
         }
         Target::Insecure(frame) => {
-            block.exits.push(Exit { frame: *frame, from, ink: block.ink });
+            let (frame, count) = (*frame, slot.count);
+            block.exits.push(Exit { frame, count, from, ink: block.ink });
         }
-        Target::Astray(what) => {
-            block.sheet.arrow("arrow astray", block.ink, &[from, to]);
-            block.ghost(DATA, y, DATA_WIDTH, what);
-        }
+        Target::Page(page) => astray(block, &block.scene.about((*page, slot.count)), y),
+        Target::Astray(word) => astray(block, &block.scene.elsewhere(*word), y),
     }
+    y + if last.is_some() { RUN } else { ROW }
+}
+
+/// An arrow to what is not the space's own.
+fn astray(block: &mut Block, what: &str, y: u32) {
+    let ends = [(TABLE + WIDTH, y + MID), (DATA, y + MID)];
+    block.sheet.arrow("arrow astray", block.ink, &ends);
+    block.ghost(DATA, y, DATA_WIDTH, what);
+}
+
+/// Data pages on one card; where the next may stand.
+fn draw_run(block: &mut Block, pages: &[u32], y: u32) -> u32 {
+    if let [page] = pages {
+        draw_data(block, *page, y);
+        return y + ROW;
+    }
+    let what = what(&block.scene.ledger, pages[0]).unwrap_or_default();
+    let lines = data_words(&what, pages, block.scene.machine.secure, columns(DATA_WIDTH));
+    let h = card_height(lines.len());
+    block.sheet.card("pages data", Area { x: DATA, y, w: DATA_WIDTH, h }, &lines);
+    y + h + ROW - CARD
 }
 
 /// A data page: its address and rights stand over its arrow, so its frame

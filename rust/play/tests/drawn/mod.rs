@@ -4,6 +4,7 @@
 #![allow(dead_code)]
 
 pub mod marks;
+pub mod pages;
 
 /// Every tag is closed in order, and no stray sign stands between tags.
 pub fn well_formed(text: &str) {
