@@ -32,16 +32,15 @@ fn batching<'b>(list: &'b Dearest, calls: &'b [u32]) -> Batching<'b> {
 /// All of them, measured in turns.
 pub fn measure(meter: &Meter) -> Bound {
     let [counted, clocked] = [in_instructions(), by_the_clock()];
-    let (mut empty, mut head) = (batching(&counted, &[]), batching(&counted, counted.head()));
+    let mut empty = batching(&counted, &[]);
     let [mut list, mut other] = [&counted, &clocked].map(|list| batching(list, &list.calls));
     let boxes = [boxes::dearest::in_instructions(), boxes::dearest::by_the_clock()];
     let [mut full, mut mixed] = boxes.each_ref().map(|lent| Accepting { lent, accepts });
-    let costs =
-        meter.measure(&mut [&mut empty, &mut head, &mut list, &mut other, &mut full, &mut mixed]);
-    let [calls, ..] = [head, list, other].map(|side| side.answers().len() / RECORD_WORDS);
+    let costs = meter.measure(&mut [&mut empty, &mut list, &mut other, &mut full, &mut mixed]);
+    let [calls, _] = [list, other].map(|side| side.answers().len() / RECORD_WORDS);
     Bound {
         call: (costs[1] - costs[0]) / calls as f64,
-        acceptance: f64::max(costs[4], costs[5]),
-        lists: [costs[2], costs[3]],
+        acceptance: f64::max(costs[3], costs[4]),
+        lists: [costs[1], costs[2]],
     }
 }

@@ -2,7 +2,8 @@
 //! counter, `--callgrind FILE` the file of callgrind's dumps.
 
 use bench::meter::Meter;
-use bench::{bound, rows, show};
+use bench::rows::{self, Told};
+use bench::{bound, show};
 use std::io::{ErrorKind, Result, Write};
 use std::process::ExitCode;
 
@@ -29,7 +30,9 @@ fn main() -> ExitCode {
 
 fn tables(meter: &Meter, out: &mut dyn Write) -> Result<()> {
     writeln!(out, "{}", show::head(meter))?;
-    let mut paid = rows::all(meter, &mut |row| writeln!(out, "{}", show::row(&row)))?;
+    let Told { by_page, mut paid } =
+        rows::all(meter, &mut |row| writeln!(out, "{}", show::row(row)))?;
+    writeln!(out, "\n{}", show::by_page(&by_page))?;
     paid.extend(rows::paid_on_larger_boxes(meter));
     writeln!(out, "\n{}", show::paid(&paid))?;
     writeln!(out, "\n{}", show::bound(meter, &bound::measure(meter)))

@@ -3,6 +3,7 @@
 use crate::bound::Bound;
 use crate::meter::Meter;
 use crate::paid::Paid;
+use crate::rows::acceptance::{ByPage, BY_PAGE};
 use crate::rows::Row;
 
 /// What stands before the table beside plain Rust.
@@ -11,7 +12,7 @@ pub fn head(meter: &Meter) -> String {
     format!(
         "{}; calls: for each call or pair, acceptance taken off
 folded: plain, but a record is read by a match, its zeros tested all at once
-dearest: the dearest box found, one space with 254 tables, every slot in use
+dearest: the dearest box found, 4 spaces with 1016 tables, every slot in use
 by clock: the same tables, each slot by chance empty or in use
 image: all blocks of a box, written or read into a spare; acceptance apart
 paper: cycles in the Komodo paper's table 3, on an Arm core of its day;
@@ -42,9 +43,28 @@ fn columns(
     paper: &str,
 ) -> String {
     let line = format!(
-        "{name:30} {ours:>9} {plain:>9} {to_plain:>5} {folded:>8} {to_folded:>5} {paper:>6}"
+        "{name:31} {ours:>9} {plain:>9} {to_plain:>5} {folded:>8} {to_folded:>5} {paper:>6}"
     );
     line.trim_end().to_string()
+}
+
+/// The table of acceptance by the page.
+pub fn by_page(rows: &[ByPage]) -> String {
+    let [fewer, more] = BY_PAGE.map(|pages| format!("n = {pages}"));
+    let line = |row: &ByPage| {
+        let [fewer, more] = row.costs.map(|cost| format!("{cost:.1}"));
+        page_columns(row.name, [fewer, more, format!("{:.3}", row.ratio())])
+    };
+    let head = "acceptance, shared by the pages of its box: linear where the ratio is 1\n";
+    [head.to_string(), page_columns("", [fewer, more, "ratio".into()])]
+        .into_iter()
+        .chain(rows.iter().map(line))
+        .collect::<Vec<_>>()
+        .join("\n")
+}
+
+fn page_columns(name: &str, [fewer, more, ratio]: [String; 3]) -> String {
+    format!("{name:20} {fewer:>9} {more:>9} {ratio:>6}")
 }
 
 /// The table of calls as they are paid.
@@ -77,15 +97,15 @@ pub fn bound(meter: &Meter, bound: &Bound) -> String {
     let line = |name: &str, cost| format!("{name:48} {:>14}", meter.large(cost));
     let [counted, clocked] = bound.lists;
     let found = |name, cost| format!("{}  {:.2}", line(name, cost), cost / bound.bound());
-    let head = "a batch of 512 at its dearest, n = 256, F = 4096
+    let head = "a batch of 512 at its dearest, n = 1024, F = 16384
 lists: acceptance in, and the ratio to the bound\n";
     [
         head.into(),
         line("dearest call, MapSecure", bound.call),
         line("dearest acceptance found", bound.acceptance),
         line("bound: 512 of that call, and that acceptance", bound.bound()),
-        found("dearest list found: 380 MapSecure", counted),
-        found("dearest by clock: 257 MapSecure, 248 tables", clocked),
+        found("dearest list found: 512 MapSecure, 508 tables", counted),
+        found("dearest by clock: 256 MapSecure, 1015 tables", clocked),
     ]
     .join("\n")
 }

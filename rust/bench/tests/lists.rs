@@ -5,7 +5,7 @@ use bench::lists::dearest::{self, Dearest};
 use bench::lists::{on_larger_boxes, works};
 use bench::sides;
 use second::calls::number::*;
-use second::layout::{kind, record_of, word, MOST_CALLS, MOST_PAGES, RECORD_WORDS};
+use second::layout::{kind, MOST_CALLS, RECORD_WORDS};
 use second::DONE;
 use std::collections::BTreeSet;
 
@@ -32,8 +32,7 @@ fn played(start: &Lent, lists: &[&[u32]]) -> Vec<u32> {
 fn lists_are_whole_and_done() {
     for work in works().iter().chain(&on_larger_boxes()) {
         let calls = work.calls.len() / RECORD_WORDS;
-        let most = if work.name == "MapSecure" { MOST_PAGES as usize - 3 } else { MOST_CALLS };
-        assert_eq!(calls, most, "{}", work.name);
+        assert_eq!(calls, MOST_CALLS, "{}", work.name);
         let each = if work.name.contains('+') { 2 } else { 1 };
         assert_eq!(work.times * each, calls, "{}", work.name);
         let alone = work.alone();
@@ -48,41 +47,34 @@ fn lists_are_whole_and_done() {
 }
 
 #[test]
-fn cheap_calls_stand_on_boxes_of_three_sizes() {
+fn cheap_calls_stand_on_boxes_of_four_sizes() {
     let works = works();
-    let sizes = |name: &str| -> Vec<u32> {
-        let larger = on_larger_boxes();
+    let larger = on_larger_boxes();
+    let boxes = |name: &str| -> Vec<(u32, usize)> {
         let all = works.iter().chain(&larger).filter(|work| work.name == name);
-        all.map(|work| work.lent.machine.pages).collect()
+        all.map(|work| (work.lent.machine.pages, work.lent.count(kind::FREE))).collect()
     };
-    assert_eq!(sizes("GetPhysPages"), [8, 64, 256]);
-    assert_eq!(sizes("Load"), [8, 64, 256]);
+    for name in ["GetPhysPages", "Load"] {
+        assert_eq!(boxes(name), [(8, 2), (64, 58), (256, 250), (1024, 1018)]);
+        assert_eq!(boxes(&format!("{name}, full")), [(1024, 0)]);
+    }
 }
 
-/// That a list has 512 calls, all done, of them so many MapSecure and Remove,
-/// one Stop, one Finalise, and so many MapSecure at its head.
-fn is_whole(list: &Dearest, secure: usize, removed: usize, head: usize) {
+/// That a list has 512 calls, all done, of them so many MapSecure, Remove and
+/// Stop, on a box with so many spaces, tables and free pages.
+fn is_whole(list: &Dearest, calls: [usize; 3], pages: [usize; 3]) {
     let rows: Vec<&[u32]> = list.calls.chunks(RECORD_WORDS).collect();
     assert_eq!(rows.len(), MOST_CALLS);
     let count = |number| rows.iter().filter(|row| row[0] == number).count();
-    assert_eq!([MAP_SECURE, REMOVE, STOP, FINALISE].map(count), [secure, removed, 1, 1]);
+    assert_eq!([MAP_SECURE, REMOVE, STOP].map(count), calls);
     let frames = rows.iter().filter(|row| row[0] == MAP_SECURE).map(|row| row[4]);
-    assert_eq!(frames.collect::<BTreeSet<_>>().len(), secure, "each from a frame of its own");
-    let first: Vec<&[u32]> = list.head().chunks(RECORD_WORDS).collect();
-    assert!(first.len() == head && first.iter().all(|row| row[0] == MAP_SECURE));
+    assert_eq!(frames.collect::<BTreeSet<_>>().len(), calls[0], "each from a frame of its own");
+    assert_eq!([kind::SPACE, kind::SECOND, kind::FREE].map(|kind| list.lent.count(kind)), pages);
     played(&list.lent, &[&list.calls]);
 }
 
 #[test]
 fn the_dearest_lists_are_whole_and_done() {
-    is_whole(&dearest::in_instructions(), 380, 130, 250);
-    is_whole(&dearest::by_the_clock(), 257, 253, 4);
-}
-
-#[test]
-fn the_dearest_list_by_the_clock_starts_with_248_tables() {
-    let Lent { machine, ledger, .. } = dearest::by_the_clock().lent;
-    let kind = |page| ledger[record_of(page)][word::TYPE];
-    let count = |which| (0..machine.page_count()).filter(|page| kind(*page) == which).count();
-    assert_eq!([kind::SECOND, kind::FREE].map(count), [248, 4]);
+    is_whole(&dearest::in_instructions(), [512, 0, 0], [2, 508, 512]);
+    is_whole(&dearest::by_the_clock(), [256, 255, 1], [4, 1015, 1]);
 }

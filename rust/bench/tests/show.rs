@@ -35,6 +35,26 @@ fn rows_stand_under_their_heads() {
 }
 
 #[test]
+fn a_page_has_its_cost_at_two_sizes() {
+    let costs = [("full", 256, 2560.0), ("full", 1024, 10752.0), ("fresh", 256, 256.0)];
+    let costs = costs.into_iter().chain([("fresh", 1024, 1024.0)]);
+    let rows = costs.map(|(how, pages, ours)| Row {
+        name: format!("acceptance, {how} box, n = {pages}"),
+        ours,
+        plain: 2.0 * ours,
+        folded: None,
+        paper: "",
+    });
+    let text = show::by_page(&acceptance::by_page(&rows.collect::<Vec<_>>()));
+    assert!(fits(&text), "{text}");
+    let lines: Vec<Vec<&str>> =
+        text.lines().skip(3).map(|line| line.split_whitespace().collect()).collect();
+    assert_eq!(lines[0], ["full", "box,", "ours", "10.0", "10.5", "1.050"]);
+    assert_eq!(lines[1], ["full", "box,", "plain", "20.0", "21.0", "1.050"]);
+    assert_eq!(lines[3], ["fresh", "box,", "plain", "2.0", "2.0", "1.000"]);
+}
+
+#[test]
 fn what_is_paid_has_a_line_each() {
     let paid = |name, pages| Paid {
         name,

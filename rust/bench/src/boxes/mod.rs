@@ -4,7 +4,7 @@ pub mod dearest;
 
 use second::calls::number::*;
 use second::cases::KEY;
-use second::layout::{FRAME_WORDS, MOST_CALLS, RECORD_WORDS};
+use second::layout::{record_of, word, FRAME_WORDS, MOST_CALLS, RECORD_WORDS};
 use second::mapping::{Mapping, READ, WORD_BYTES, WRITE};
 use second::shift::record;
 use second::{Machine, DONE};
@@ -35,6 +35,12 @@ impl Lent {
         Lent { machine, memory, ledger }
     }
 
+    /// How many pages are of this type.
+    pub fn count(&self, kind: u32) -> usize {
+        let pages = 0..self.machine.page_count();
+        pages.filter(|page| self.ledger[record_of(*page)][word::TYPE] == kind).count()
+    }
+
     /// The words of a secure page.
     pub fn page(&mut self, page: usize) -> &mut [u32] {
         &mut self.memory[self.machine.words_of(page)]
@@ -63,6 +69,19 @@ pub fn writable(index: u32, slot: u32) -> u32 {
 
 /// One space that owns every page, of all types in turn.
 pub fn full(pages: u32) -> Lent {
+    Lent::after(small(pages), &filling(pages))
+}
+
+/// The address of the first data page of a full box.
+pub const FULL_DATA_PAGE: u32 = 3 * DATA_PAGE;
+
+/// The same, final; with its first thread running, if that is wanted.
+pub fn full_enclave(pages: u32, running: bool) -> Lent {
+    Lent::after(small(pages), &[filling(pages), finished(5, running)].concat())
+}
+
+/// The calls that fill a box.
+fn filling(pages: u32) -> Vec<Vec<u32>> {
     let index = |page: u32| (page - 2) / 6;
     let page = |page: u32| match page % 6 {
         2 => vec![INIT_TABLE, 0, page, index(page)],
@@ -75,7 +94,16 @@ pub fn full(pages: u32) -> Lent {
     let others = (2..pages).filter(|page| page % 6 != 2);
     let mut rows = vec![vec![INIT_ADDR_SPACE, 0, 1]];
     rows.extend(tables.chain(others).map(page));
-    Lent::after(small(pages), &rows)
+    rows
+}
+
+/// Space 0 is final, and its thread on this page runs, if that is wanted.
+fn finished(thread: u32, running: bool) -> Vec<Vec<u32>> {
+    let mut rows = vec![vec![FINALISE, 0]];
+    if running {
+        rows.push(vec![ENTER, thread, 7, 8, 9]);
+    }
+    rows
 }
 
 /// The address of slot 1 of the first table.
@@ -85,16 +113,12 @@ pub const DATA_PAGE: u32 = FRAME_WORDS as u32 * WORD_BYTES;
 /// spare page 5, all other pages free; with its thread running, if that is
 /// wanted.
 pub fn enclave(pages: u32, running: bool) -> Lent {
-    let mut rows = vec![
+    let rows = vec![
         vec![INIT_ADDR_SPACE, 0, 1],
         vec![INIT_TABLE, 0, 2, 0],
         vec![MAP_SECURE, 0, 3, writable(0, 1), 5],
         vec![INIT_THREAD, 0, 4, DATA_PAGE],
         vec![ALLOC_SPARE, 0, 5],
-        vec![FINALISE, 0],
     ];
-    if running {
-        rows.push(vec![ENTER, 4, 7, 8, 9]);
-    }
-    Lent::after(small(pages), &rows)
+    Lent::after(small(pages), &[rows, finished(4, running)].concat())
 }

@@ -1,25 +1,16 @@
 //! The dearest lists of 512 calls that were found. MapSecure is the dearest
-//! call by far. It fills a free page, and a page that it filled is free again
-//! only after a Stop and a Remove. So one space is given all free pages and
-//! stopped, and then its pages go to another one by one.
+//! call by far. It fills a free page, and a page in use is free again only
+//! after a Stop and a Remove.
 
-use crate::boxes::dearest::{by_chance, in_use, ABOVE, WIDE};
+use crate::boxes::dearest::{by_chance, in_use, space, table_pages, tables, ABOVE, WIDE};
 use crate::boxes::{records, writable, Lent};
 use second::calls::number::*;
-use second::layout::{MOST_CALLS, RECORD_WORDS};
+use second::layout::{MOST_CALLS, MOST_TABLES};
 
-/// The two spaces; the page after a space is its first level, the one after
-/// that its table.
-const SPACES: [u32; 2] = [0, 3];
-
-/// The first page that is neither's yet.
-const REST: u32 = 6;
-
-/// How many pages go from one space to the other, by a Remove and a MapSecure
-/// each, where so many are free at first: Stop and Finalise take a call each.
-const fn moved(free: u32) -> u32 {
-    (MOST_CALLS as u32 - free - 2) / 2
-}
+/// The space whose first table the list fills, and the one whose tables it
+/// removes.
+const FILLED: u32 = 0;
+const REMOVED: u32 = 1;
 
 /// A list and its box.
 pub struct Dearest {
@@ -27,66 +18,42 @@ pub struct Dearest {
     pub lent: Lent,
     /// The records.
     pub calls: Vec<u32>,
-    free: usize,
 }
 
-impl Dearest {
-    /// The calls at the list's head that fill the free pages.
-    pub fn head(&self) -> &[u32] {
-        &self.calls[..self.free * RECORD_WORDS]
-    }
-}
-
-/// In instructions: all the rest is free, so that there are as many MapSecure
-/// as there can be.
+/// In instructions: a call is worth more than two tables, so each is a
+/// MapSecure, and as many pages are free.
 pub fn in_instructions() -> Dearest {
-    dearest(WIDE.pages - REST, in_use)
+    dearest(MOST_CALLS as u32, in_use)
 }
 
 /// By the clock: a table whose slots are in use by chance cost acceptance, where
-/// it was measured, more than half a MapSecure, which a free page is worth. So
-/// no more are free than the list fills before it moves all the first space's.
+/// it was measured, more than half a MapSecure. So one page is free, and those
+/// that are filled after it are tables until then.
 pub fn by_the_clock() -> Dearest {
-    const FREE: u32 = 4;
-    const { assert!(moved(FREE) == WIDE.pages - SPACES[1]) };
-    dearest(FREE, by_chance())
+    dearest(1, by_chance())
 }
 
 fn dearest(free: u32, slot: impl FnMut() -> u32) -> Dearest {
     let rows = list(free);
-    Dearest { lent: two_spaces(free, slot), calls: records(&rows), free: free as usize }
+    let mut lent = tables(free, slot);
+    // The slots that the list fills, in the filled space's first table.
+    let filled = rows.iter().filter(|row| row[0] == MAP_SECURE).count();
+    lent.page(table_pages(free).start as usize)[..filled].fill(0);
+    Dearest { lent, calls: records(&rows) }
 }
 
-/// The last pages are free, the others of the rest are the first space's
-/// tables. Slots that the list does not fill are as acceptance pays most for.
-fn two_spaces(free: u32, mut slot: impl FnMut() -> u32) -> Lent {
-    let build =
-        |space| [vec![INIT_ADDR_SPACE, space, space + 1], vec![INIT_TABLE, space, space + 2, 0]];
-    let mut rows = SPACES.map(build).concat();
-    let tables = REST..WIDE.pages - free;
-    rows.extend(tables.clone().map(|page| vec![INIT_TABLE, SPACES[0], page, page]));
-    let mut lent = Lent::after(WIDE, &rows);
-    let own = SPACES.map(|space| space + 2).into_iter().zip([free, moved(free)]);
-    for (page, filled) in own.chain(tables.map(|page| (page, 0))) {
-        lent.page(page as usize)[filled as usize..].fill_with(&mut slot);
-    }
-    lent
-}
-
+/// All free pages are filled; then tables of a stopped space, one by one, for
+/// as long as there are calls.
 fn list(free: u32) -> Vec<Vec<u32>> {
-    let [first, second] = SPACES;
     // Each page from a frame of its own, so that no cache holds it.
-    let fill = |space: u32, page: u32, slot: u32| {
-        vec![MAP_SECURE, space, page, writable(0, slot), ABOVE + 7 * slot + space]
+    let fill = |page: u32, slot: u32| {
+        vec![MAP_SECURE, space(FILLED), page, writable(0, slot), ABOVE + 7 * slot]
     };
     let mut rows: Vec<Vec<u32>> =
-        (0..free).map(|slot| fill(first, WIDE.pages - free + slot, slot)).collect();
-    rows.push(vec![STOP, first]);
-    // The space itself goes last: until then it owns pages.
-    let pages = (REST..WIDE.pages).chain((first..second).rev());
-    for (page, slot) in pages.zip(0..moved(free)) {
-        rows.extend([vec![REMOVE, page], fill(second, page, slot)]);
-    }
-    rows.push(vec![FINALISE, second]);
+        (WIDE.pages - free..WIDE.pages).zip(0..).map(|(page, slot)| fill(page, slot)).collect();
+    rows.push(vec![STOP, space(REMOVED)]);
+    let removed = table_pages(free).skip(MOST_TABLES).zip(free..);
+    rows.extend(removed.flat_map(|(page, slot)| [vec![REMOVE, page], fill(page, slot)]));
+    rows.truncate(MOST_CALLS);
     rows
 }

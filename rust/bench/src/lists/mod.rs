@@ -2,7 +2,9 @@
 
 pub mod dearest;
 
-use crate::boxes::{enclave, records, small, writable, Lent, DATA_PAGE};
+use crate::boxes::{
+    enclave, full_enclave, records, small, writable, Lent, DATA_PAGE, FULL_DATA_PAGE,
+};
 use second::calls::number::*;
 use second::cases::KEY;
 use second::layout::{FRAME_WORDS, HASH_WORDS, MOST_CALLS, MOST_PAGES, RECORD_WORDS};
@@ -40,27 +42,26 @@ impl Work {
     }
 }
 
-fn get_phys_pages(pages: u32) -> Work {
-    Work::of(("GetPhysPages", "123"), enclave(pages, false), |_| vec![vec![GET_PHYS_PAGES]])
+fn get_phys_pages(name: &'static str, lent: Lent) -> Work {
+    Work::of((name, "123"), lent, |_| vec![vec![GET_PHYS_PAGES]])
 }
 
-/// A word of the data page.
-fn address(turn: u32) -> u32 {
-    DATA_PAGE + WORD_BYTES * (turn * 37 % FRAME_WORDS as u32)
+/// A word of the page at this address.
+fn address(page: u32, turn: u32) -> u32 {
+    page + WORD_BYTES * (turn * 37 % FRAME_WORDS as u32)
 }
 
-fn load(pages: u32) -> Work {
-    Work::of(("Load", ""), enclave(pages, true), |turn| vec![vec![LOAD, address(turn)]])
+fn load(name: &'static str, lent: Lent, page: u32) -> Work {
+    Work::of((name, ""), lent, |turn| vec![vec![LOAD, address(page, turn)]])
 }
 
-/// MapSecure uses its pages up, so its box is large and its list shorter.
+/// MapSecure uses its pages up, so its box is large.
 fn map_secure() -> Work {
     let rows = [vec![INIT_ADDR_SPACE, 0, 1], vec![INIT_TABLE, 0, 2, 0]];
     let lent = Lent::after(small(MOST_PAGES), &rows);
-    let rows: Vec<Vec<u32>> = (3..MOST_PAGES)
-        .map(|page| vec![MAP_SECURE, 0, page, writable(0, page), 2 + page % 4])
-        .collect();
-    Work { name: "MapSecure", paper: "", lent, calls: records(&rows), times: rows.len() }
+    Work::of(("MapSecure", ""), lent, |turn| {
+        vec![vec![MAP_SECURE, 0, 3 + turn, writable(0, turn), 2 + turn % 4]]
+    })
 }
 
 fn verify(turn: u32) -> Vec<u32> {
@@ -77,9 +78,11 @@ pub fn works() -> Vec<Work> {
     let (idle, running) = (enclave(PAGES, false), enclave(PAGES, true));
     let attest = |turn| vec![[&[ATTEST][..], &[turn; HASH_WORDS]].concat()];
     vec![
-        get_phys_pages(PAGES),
-        load(PAGES),
-        Work::of(("Store", ""), running.clone(), |turn| vec![vec![STORE, address(turn), turn]]),
+        get_phys_pages("GetPhysPages", idle.clone()),
+        load("Load", running.clone(), DATA_PAGE),
+        Work::of(("Store", ""), running.clone(), |turn| {
+            vec![vec![STORE, address(DATA_PAGE, turn), turn]]
+        }),
         Work::of(("Enter + Exit", "738"), idle.clone(), |_| {
             vec![vec![ENTER, 4, 7, 8, 9], vec![EXIT, 5]]
         }),
@@ -95,7 +98,14 @@ pub fn works() -> Vec<Work> {
     ]
 }
 
-/// Two cheap calls on larger boxes.
+/// Two cheap calls on larger boxes, the last with every page in use.
 pub fn on_larger_boxes() -> Vec<Work> {
-    [get_phys_pages, load].iter().flat_map(|work| [work(64), work(MOST_PAGES)]).collect()
+    let sizes = [64, 256, MOST_PAGES];
+    let idle = sizes.map(|pages| get_phys_pages("GetPhysPages", enclave(pages, false)));
+    let running = sizes.map(|pages| load("Load", enclave(pages, true), DATA_PAGE));
+    let full = [
+        get_phys_pages("GetPhysPages, full", full_enclave(MOST_PAGES, false)),
+        load("Load, full", full_enclave(MOST_PAGES, true), FULL_DATA_PAGE),
+    ];
+    idle.into_iter().chain(running).chain(full).collect()
 }

@@ -17,6 +17,9 @@ const INDEX: usize = 1;
 const TOTAL: usize = 2;
 const CHECK: usize = CHECKED_BYTES / WORD;
 
+/// What is added to the total there, so that older images are refused.
+const LAYOUT: u32 = 65_536;
+
 /// The bytes of a block's payload.
 const PAYLOAD: Range<usize> = WORD * BLOCK_HEAD..CHECKED_BYTES;
 
@@ -50,7 +53,7 @@ pub fn write(
     let (head, payload) = block[..CHECKED_BYTES].split_at_mut(PAYLOAD.start);
     let (in_ledger, rest) = payload.split_at_mut(WORD * runs.ledger.len());
     let (in_memory, fill) = rest.split_at_mut(WORD * runs.memory.len());
-    put(head, &[number, index, total(m)]);
+    put(head, &[number, index, total(m) + LAYOUT]);
     put(in_ledger, &ledger[runs.ledger]);
     put(in_memory, &memory[runs.memory]);
     fill.fill(0);
@@ -94,7 +97,7 @@ fn good(m: Machine, came: u32, number: u32, block: &[u8]) -> bool {
     block.len() == BLOCK_BYTES
         && came < total(m)
         && word(block, INDEX) == came
-        && word(block, TOTAL) == total(m)
+        && word(block, TOTAL) == total(m) + LAYOUT
         && (came == 0 || word(block, NUMBER) == number)
         && block[PAYLOAD][WORD * Runs::of(m, came).len()..].iter().all(|byte| *byte == 0)
         && word(block, CHECK) == crc32(&block[..CHECKED_BYTES])

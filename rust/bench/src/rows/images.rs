@@ -8,9 +8,9 @@ use second::cases::BOX_A;
 use second::layout::MOST_PAGES;
 
 /// The boxes, by what their rows say.
-pub fn boxes() -> [(String, Lent); 2] {
-    let larger = format!("full box, n = {MOST_PAGES}");
-    [("image of box A".into(), full(BOX_A.pages)), (larger, full(MOST_PAGES))]
+pub fn boxes() -> [(String, Lent); 3] {
+    let larger = |pages| (format!("full box, n = {pages}"), full(pages));
+    [("image of box A".into(), full(BOX_A.pages)), larger(256), larger(MOST_PAGES)]
 }
 
 /// The names of the two rows of one.

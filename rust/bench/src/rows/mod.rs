@@ -9,6 +9,7 @@ pub mod images;
 use crate::lists::{on_larger_boxes, works, Work};
 use crate::meter::Meter;
 use crate::paid::Paid;
+use acceptance::ByPage;
 use std::io::Result;
 
 /// A row: what is done, and what it costs in the meter's unit.
@@ -25,22 +26,33 @@ pub struct Row {
     pub paper: &'static str,
 }
 
-/// All rows, each given away as soon as it is measured. What is paid for the
-/// calls is handed back.
-pub fn all(meter: &Meter, give: &mut dyn FnMut(Row) -> Result<()>) -> Result<Vec<Paid>> {
-    hashes::rows(meter).into_iter().try_for_each(&mut *give)?;
-    give(checks::row(meter))?;
+/// What is told beside the rows.
+pub struct Told {
+    /// What acceptance costs for a page.
+    pub by_page: Vec<ByPage>,
+    /// What is paid for the calls.
+    pub paid: Vec<Paid>,
+}
+
+/// All rows, each given away as soon as it is measured.
+pub fn all(meter: &Meter, give: &mut dyn FnMut(&Row) -> Result<()>) -> Result<Told> {
+    hashes::rows(meter).iter().try_for_each(&mut *give)?;
+    give(&checks::row(meter))?;
+    let mut rows = Vec::new();
     for (name, lent) in acceptance::boxes() {
-        give(acceptance::row(meter, name, &lent))?;
+        let row = acceptance::row(meter, name, &lent);
+        give(&row)?;
+        rows.push(row);
     }
     for (name, lent) in images::boxes() {
-        images::rows(meter, &name, &lent).into_iter().try_for_each(&mut *give)?;
+        images::rows(meter, &name, &lent).iter().try_for_each(&mut *give)?;
     }
     let measured = |work: Work| {
         let (row, paid) = calls::rows(meter, &work);
-        give(row).map(|()| paid)
+        give(&row).map(|()| paid)
     };
-    works().into_iter().map(measured).collect()
+    let paid = works().into_iter().map(measured).collect::<Result<_>>()?;
+    Ok(Told { by_page: acceptance::by_page(&rows), paid })
 }
 
 /// What is paid for cheap calls on larger boxes.
