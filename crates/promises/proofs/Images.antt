@@ -26,7 +26,7 @@ use Rattle.image.specs.Service.{BlocksCounted, BlockWritten, BlockRead, BlockRe
 use Rattle.words.proofs.Endian.{word-drop}
 use Rattle.image.proofs.Placed.{length-imageOf, image-ledger}
 use Rattle.image.proofs.Spare.{image-frame, filled-others}
-use Rattle.image.proofs.Inside.{total-holds, total-least, total-most, total-fits, total-word-fits}
+use Rattle.image.proofs.Inside.{total-holds, total-least, total-fits, total-word-fits}
 use Rattle.image.proofs.Good.{length-block, small-block, block-word, block-number, block-payload, block-check}
 use Rattle.promises.specs.Terms.{OfSecure}
 use Rattle.promises.specs.Settled.{Given}

@@ -23,7 +23,7 @@ pub record OldImagesAreRefused : Type 0 where
   pub old-totals : (n T : ℕ) → OldTotal n T → T ≤ 2181
   pub at-block-0 : (b : Machine) (M L B : List ℕ) (r : ℕ) (M' L' P' : List ℕ) (n : ℕ) → BlockRead b M L (replicate 4 0) B r M' L' P'
       → Given b M L → OldTotal n (wordAt B 2) → (r ≡ 25) × (M' ≡ M) × (L' ≡ L) × (P' ≡ 25 ∷ 0 ∷ 0 ∷ 0 ∷ [])
-  -- no total of now is so high that word 2 could be another's
+  -- and no total, of now either, comes near 65,536
   pub totals : (b : Machine) (r : ℕ) → BlocksCounted b r → r ≤ 8722
 
 -- ---- "The header grows to 64 words .. ledger 64+32n words": a ledger of before for n+1 pages is as long as one of now for n
