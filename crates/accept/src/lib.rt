@@ -1,6 +1,8 @@
 // The acceptance check: yes exactly when what is lent keeps the rules. It writes nothing, stops at the first fault, and reads each
 // secure page once, but for the tables' words that are in use and those beside them.
 
+#![tactic(auto)]
+
 mod counts;
 mod header;
 mod links;

@@ -1,5 +1,7 @@
 // What the calls share: the answer, the registers, and the refusals that several calls have.
 
+#![tactic(auto)]
+
 mod refusals;
 
 ghost use Rattle.std.specs.Prelude.{◌≡◌, length};

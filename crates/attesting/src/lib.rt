@@ -1,5 +1,7 @@
 // Calls 32-34: a random word, a MAC over one's measurement and text, and the test of one.
 
+#![tactic(auto)]
+
 ghost use Rattle.std.specs.Prelude.{◌≡◌, ◌&&◌, List, ◌++◌, ℕ, eqb, length};
 ghost use Rattle.answer.specs.Answer.{numbers};
 ghost use Rattle.attesting.specs.Calls.{get_random, mac, attest, same_words, verify};

@@ -1,5 +1,7 @@
 // Records of calls obeyed in order: one record, a batch, and the service.
 
+#![tactic(auto)]
+
 mod list;
 mod service;
 

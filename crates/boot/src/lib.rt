@@ -1,5 +1,7 @@
 // Boot: a fresh ledger, secure frames zero.
 
+#![tactic(auto)]
+
 ghost use Rattle.std.specs.Prelude.{◌≡◌, ◌+◌, ◌*◌, ◌<◌, ◌≤◌, length};
 ghost use Rattle.words.specs.Words.{Says, record_words, list_below};
 ghost use Rattle.machine.specs.Machine.{frame_words, header_words, map_words};

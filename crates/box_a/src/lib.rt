@@ -1,1 +1,3 @@
 // The shift on box A, as one proved table.
+
+#![tactic(auto)]

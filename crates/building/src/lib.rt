@@ -1,5 +1,7 @@
 // Calls 2-8: an address space, its threads, tables, spare and data pages, its insecure mappings, its measurement.
 
+#![tactic(auto)]
+
 ghost use Rattle.std.specs.Prelude.{◌≡◌, List, ℕ, ◌+◌, ◌*◌, ◌≤◌, length};
 ghost use Rattle.machine.specs.Machine.{frame_words, Lent};
 ghost use Rattle.memory.specs.Memory.{words_of};

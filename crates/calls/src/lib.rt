@@ -1,5 +1,7 @@
 // The table of calls: numbers, how many arguments each has, and what it does.
 
+#![tactic(auto)]
+
 ghost use Rattle.std.specs.Prelude.{◌≡◌, length};
 ghost use Rattle.words.specs.Words.{record_words};
 ghost use Rattle.machine.specs.Machine.{Lent};

@@ -1,5 +1,7 @@
 // The CRC-32 of IEEE 802.3, a word a step by four tables, and the last bytes one by one.
 
+#![tactic(auto)]
+
 mod slices;
 
 ghost use Rattle.std.specs.Prelude.{◌≡◌, ◌+◌, ◌*◌, ◌/◌, ◌≤◌, length, take, drop};

@@ -1,4 +1,7 @@
 // The CRC-32 for C or Rust to call.
+
+#![tactic(auto)]
+
 ghost use Rattle.std.specs.Prelude.{◌≡◌};
 ghost use Rattle.crc32.specs.Crc32.{crc32};
 

@@ -1,5 +1,7 @@
 // Calls 35-42, asked by the running enclave: its own pages, the end of its run, loads and stores.
 
+#![tactic(auto)]
+
 mod pages;
 mod run;
 

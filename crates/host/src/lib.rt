@@ -1,6 +1,8 @@
 // A host that calls every exported function with whatever it has: each asks nothing, and each ensures its relation. An exported function
 // that asked for anything, or ensured less, would leave one of these unproved.
 
+#![tactic(auto)]
+
 ghost use Rattle.std.specs.Prelude.{◌≡◌, ◌&&◌, cond, ◌%◌, eqb, leb, length};
 ghost use Rattle.machine.specs.Machine.{machine_of};
 ghost use Rattle.sha256.specs.Sha256.{absorb, sha256};

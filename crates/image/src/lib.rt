@@ -1,5 +1,7 @@
 // Saved images: ledger and secure frames as blocks, written and read one at a time. What has come is kept in words that the caller lends.
 
+#![tactic(auto)]
+
 mod reader;
 mod runs;
 mod writer;

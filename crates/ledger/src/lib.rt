@@ -1,6 +1,8 @@
 // Words of the ledger, read and written in place. Reading outside the ledger gives 0 and writing outside it does nothing, as in the
 // definitions, so hardly a function here asks anything of its caller.
 
+#![tactic(auto)]
+
 mod hash;
 mod map;
 mod pages;

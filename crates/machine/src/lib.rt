@@ -1,5 +1,7 @@
 // The machine numbers of document 01: do they fit, what is lent with them, and is a frame insecure?
 
+#![tactic(auto)]
+
 ghost use Rattle.std.specs.Prelude.{◌≡◌};
 ghost use Rattle.words.specs.Words.{Says};
 ghost use Rattle.machine.specs.Machine.{Fits, Lent, among, insecure};

@@ -1,5 +1,7 @@
 // A mapping word is a type of its own, and answers for itself. A legal entry is an address at which a thread may start.
 
+#![tactic(auto)]
+
 ghost use Rattle.std.specs.Prelude.{◌≡◌};
 ghost use Rattle.mapping.specs.Mapping.{index_of, slot_of, rights_of, address_of, writes, executes, well_formed};
 ghost use Rattle.mapping.specs.Entry.{legal_entry};

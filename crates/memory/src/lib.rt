@@ -1,5 +1,7 @@
 // Words of the memory, read and written in place. Reading outside the memory gives 0 and writing outside it does nothing.
 
+#![tactic(auto)]
+
 ghost use Rattle.std.specs.Prelude.{◌≡◌, ◌+◌, ◌*◌, ◌≤◌, length};
 ghost use Rattle.machine.specs.Machine.{frame_words};
 ghost use Rattle.memory.specs.Memory.{frame, put_word, copied, wiped};

@@ -1,6 +1,8 @@
 // The services for a host, exported for C and Rust: machine numbers as words, what is lent as slices. They ask nothing of what is lent:
 // what does not fit gets 18, or a no.
 
+#![tactic(auto)]
+
 ghost use Rattle.machine.specs.Machine.{machine_of};
 ghost use Rattle.accept.specs.Accept.{Accepts};
 ghost use Rattle.batch.specs.Service.{Batched};

@@ -1,5 +1,7 @@
 // A call record's form, and the writer of an answer record.
 
+#![tactic(auto)]
+
 ghost use Rattle.std.specs.Prelude.{◌≡◌, length, drop};
 ghost use Rattle.words.specs.Words.{record_words, padded, all_zero};
 ghost use Rattle.answer.specs.Answer.{numbers};

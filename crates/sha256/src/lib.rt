@@ -1,4 +1,7 @@
 // SHA-256 (FIPS 180-4) and HMAC by it (FIPS 198-1) on messages of whole 32-bit words.
+
+#![tactic(auto)]
+
 ghost use Rattle.std.specs.Prelude.{◌≡◌, ◌+◌, ◌-◌, ◌%◌, ◌^◌, ◌<◌, ◌≤◌, ◌++◌, length, take, replicate};
 ghost use Rattle.sha256.specs.Sha256 as fips;
 ghost use Rattle.sha256.specs.Hmac as mac;

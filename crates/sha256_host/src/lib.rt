@@ -1,4 +1,7 @@
 // SHA-256 and HMAC for C or Rust to call. Each answers false, and changes nothing, where a length does not fit.
+
+#![tactic(auto)]
+
 ghost use Rattle.std.specs.Prelude.{◌≡◌, ◌&&◌, cond, ◌%◌, eqb, leb, length};
 ghost use Rattle.sha256.specs.Sha256.{absorb, sha256};
 ghost use Rattle.sha256.specs.Hmac.{hmac};

@@ -2,6 +2,9 @@
 // The text: the words of a call, call number first, in decimal with one blank between, and a semicolon after the last.
 // A line: its number, the call's name and the words after its number, ` -> `, the answer's code and meaning,
 // and, where the code is 0 and the call has values, a colon and the values.
+
+#![tactic(auto)]
+
 mod input;
 mod output;
 

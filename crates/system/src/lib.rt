@@ -1,5 +1,7 @@
 // Calls 1 and 9-13, asked by the untrusted system: running an enclave that is built, taking it down.
 
+#![tactic(auto)]
+
 mod reclaiming;
 mod running;
 

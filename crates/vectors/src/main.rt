@@ -3,6 +3,9 @@
 //   a part is a line of two spaces, its name and a colon, and then its words, eight to a line and the rest on the last line;
 //   a line of words is four spaces and the words, with one space between, each by eight lowercase hexadecimal digits;
 //   a part of no words is its first line alone, and a long input is a word and how often it stands there.
+
+#![tactic(auto)]
+
 ghost use Rattle.std.specs.Prelude.{◌≡◌, ◌+◌, ◌<◌, ◌≤◌, length};
 
 fn say(text: &[u8]) {

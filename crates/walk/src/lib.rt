@@ -1,5 +1,7 @@
 // The walk of the page tables, and what an access and a mapping call do with it.
 
+#![tactic(auto)]
+
 ghost use Rattle.std.specs.Prelude.{◌≡◌, ◌+◌, ◌<◌, ◌^◌};
 ghost use Rattle.mapping.specs.Mapping.{rights_end};
 ghost use Rattle.walk.specs.Walk.{walk, translate, frame_of, word_of, filled, slot_word, mapped, linked};

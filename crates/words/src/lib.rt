@@ -1,5 +1,7 @@
 // Words: bits of one, lists of them in place, their bytes, and refusals in order. What several crates use and none owns.
 
+#![tactic(auto)]
+
 mod bytes;
 
 ghost use Rattle.std.specs.Prelude.{◌≡◌, ℕ, ◌+◌, ◌<◌, ◌≤◌, length, get_or, replicate};
