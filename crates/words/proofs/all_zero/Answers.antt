@@ -1,5 +1,4 @@
--- `all_zero` meets its contract. The loop's invariant: what is seen is zero exactly when the words from lo up to k are.
-use Prim.Native.Nat.{ℕ, ◌+◌, ◌-◌, ◌≤◌, ◌<◌}
+use Prim.Native.Nat.{ℕ, ◌+◌, ◌≤◌, ◌<◌}
 use mathlib.Core.Path.{◌≡◌, refl, ◌∙◌}
 use mathlib.Core.List.{List}
 use native.Mathlib.Omega.{arith}
@@ -7,12 +6,10 @@ use borrow.Author.Count.{below_more}
 use lib.Bits.{bit_and, bit_or, or_add_and, or_zero_l, and_le_l}
 use lib.ListN.{length, get_or, get_or-eq_default}
 use native.Mathlib.Decide.{dec_lt}
-use Rattle.words.proofs.all_zero.Statement.{statement}
-use Rattle.words.proofs.all_zero.Tie as tie
+use Rattle.words.proofs.all_zero.Invariants.{Zero}
+use Rattle.words.proofs.all_zero.Goals as goal
 
--- the words from lo up to k are zero
-abbrev Zero : List ℕ → ℕ → ℕ → Type 0
-Zero words lo k = (j : ℕ) → j < k → lo ≤ j → get_or words j 0 ≡ 0
+-- loop loop-k: words (unchanged), lo (unchanged), seen, k
 
 or_none : (a b : ℕ) → bit_or a b ≡ 0 → (a ≡ 0) × (b ≡ 0)
 or_none a b e =
@@ -39,29 +36,17 @@ all_below words lo k all j l m = go (dec_lt j (length words))
     go (yes h) = all j m h
     go (no h) = get_or-eq_default words 0 (omega arith)
 
-abbrev invariant-loop : tie.invariant-loop
-invariant-loop words lo seen₀ k₀ seen k = (lo ≤ k) × (seen ≡ 0 → Zero words lo k) × (Zero words lo k → seen ≡ 0)
+pub loop-k-init : goal.loop-k-init
+loop-k-init c = (omega arith, λ _ j l m. absurd (omega arith), λ _. refl)
 
-abbrev decreases-loop : tie.decreases-loop
-decreases-loop words lo seen₀ k₀ seen k = length words - k
-
-loop-holds : tie.Need-loop-init invariant-loop decreases-loop
-loop-holds c = (omega arith, λ _ j l m. absurd (omega arith), λ _. refl)
-
-loop-again : tie.Need-loop-preserved invariant-loop decreases-loop
-loop-again c =
-    let l = c.before.before.loop in
-    let ws = c.before.before.before.args.words.now in
+pub loop-k-preserved : goal.loop-k-preserved
+loop-k-preserved c =
+    let l = c.loop-k in
+    let ws = c.args.words.now in
     (omega arith, seen_more ws _ l.k l.seen l.invariant.0 l.invariant.1, zero_more ws _ l.k l.seen l.invariant.0 l.invariant.2)
 
-returns : tie.Need-returns invariant-loop decreases-loop
-returns c all = let l = c.before.before.loop in c.if1.true (l.invariant.2 (all_below c.before.before.before.args.words.now _ _ all))
+pub returns-then-seen-ne0 : goal.returns-then-seen-ne0
+returns-then-seen-ne0 c all = let l = c.loop-k in c.if-seen-ne0.true (l.invariant.2 (all_below c.args.words.now _ _ all))
 
-returns-2 : tie.Need-returns-2 invariant-loop decreases-loop
-returns-2 c j l m = let x = c.before.before.loop in x.invariant.1 c.if1.false j (omega arith) l
-
-pub all_zero_spec : {M : Type 1} → statement M
-all_zero_spec =
-    tie.close
-    (tie.spec
-    invariant-loop decreases-loop loop-holds (λ c. omega arith) (λ c. omega arith) (λ c. omega arith) (λ c. omega arith) loop-again returns returns-2)
+pub returns : goal.returns
+returns c j l m = let x = c.loop-k in x.invariant.1 c.if-seen-ne0.false j (omega arith) l
