@@ -9,7 +9,7 @@ ghost use Rattle.machine.specs.Machine.{Fits, Lent, among, insecure};
 use words::RECORD_WORDS;
 
 // F, s, n, m, k: frames, first secure frame, secure pages, first monitor frame, monitor frames.
-#[derive(Drop)]
+#[derive(Clone, Copy)]
 pub struct Machine {
     pub frames: u32,
     pub secure: u32,

@@ -6,7 +6,7 @@ ghost use Rattle.std.specs.Prelude.{◌≡◌};
 ghost use Rattle.mapping.specs.Mapping.{index_of, slot_of, rights_of, address_of, writes, executes, well_formed};
 ghost use Rattle.mapping.specs.Entry.{legal_entry};
 
-#[derive(Drop)]
+#[derive(Clone, Copy)]
 pub struct Mapping(pub u32);
 
 // The bytes of a word, of a page, and of what one table maps.

@@ -5,8 +5,7 @@ use native.Mathlib.Decide.{dec_lt}
 use lib.Dec.{ltb}
 use borrow.Author.Tests.{lt-leb, le-leb, lt-ltb, le-ltb}
 use Rattle.machine.specs.Machine.{among}
-use Rattle.machine.proofs.is_among.Statement.{statement}
-use Rattle.machine.proofs.is_among.Tie as tie
+use Rattle.machine.proofs.is_among.Goals as goal
 
 same : (a c f : ℕ) → a ≤ f → ltb (f - a) c ≡ among a c f
 same a c f l = go (dec_lt (f - a) c)
@@ -15,11 +14,8 @@ same a c f l = go (dec_lt (f - a) c)
     go (yes h) = simp (lt-ltb (f - a) c h, le-leb a f l, lt-ltb f (a + c) (omega arith))
     go (no h) = simp (le-ltb (f - a) c (omega arith), le-leb a f l, le-ltb f (a + c) (omega arith))
 
-returns : tie.Need-returns
-returns c = simp (lt-leb _ _ c.if1.true)
+pub returns-then-f-first : goal.returns-then-f-first
+returns-then-f-first c = simp (lt-leb _ _ c.if-f-first.true)
 
-returns-2 : tie.Need-returns-2
-returns-2 c = same _ _ _ c.if1.false
-
-pub is_among_spec : {M : Type 1} → statement M
-is_among_spec = tie.close (tie.spec returns returns-2)
+pub returns : goal.returns
+returns c = same _ _ _ c.if-f-first.false
