@@ -22,7 +22,7 @@ use words::{either, refuse};
 // The words of a thread's registers: r0 to r15 and the flags.
 pub const REGS: usize = 17;
 
-#[derive(Drop)]
+#[derive(Clone, Copy)]
 pub struct Regs {
     pub r0: u32,
     pub r1: u32,
@@ -44,7 +44,7 @@ pub struct Regs {
 }
 
 // A MAC's eight words. (An enum holds no array.)
-#[derive(Drop)]
+#[derive(Clone, Copy)]
 pub struct Mac {
     pub m0: u32,
     pub m1: u32,
@@ -56,7 +56,7 @@ pub struct Mac {
     pub m7: u32,
 }
 
-#[derive(Drop)]
+#[derive(Clone, Copy)]
 pub enum Answer {
     Refused(u32),
     Done,

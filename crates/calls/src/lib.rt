@@ -75,7 +75,7 @@ const MAC_END: usize = 25;
 const REGS_END: usize = 18;
 
 // How many arguments a call has, where there is such a call.
-#[derive(Drop)]
+#[derive(Clone, Copy)]
 pub enum Arity {
     Takes(u32),
     NoCall,

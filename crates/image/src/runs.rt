@@ -14,7 +14,7 @@ pub const PAYLOAD_WORDS: usize = 124;
 const TOTAL_FROM: u32 = 65536;
 
 // Of a payload: the ledger's words, `ledger` from word `from` on; then those of the secure frames, `frames` from word `first` of them on.
-#[derive(Drop)]
+#[derive(Clone, Copy)]
 pub struct Runs {
     pub from: usize,
     pub ledger: usize,

@@ -84,7 +84,7 @@ const K3: [u32; 16] = [
 ];
 
 // The eight working variables of 6.2.2.
-#[derive(Drop)]
+#[derive(Clone, Copy)]
 pub struct Vars {
     pub a: u32,
     pub b: u32,

@@ -6,7 +6,7 @@ ghost use Rattle.std.specs.Prelude.{◌≤◌, length};
 pub const RECORD: usize = 32;
 
 // The first words of a record and how many they are; the rest are zero.
-#[derive(Drop)]
+#[derive(Clone, Copy)]
 pub struct Row {
     pub words: [u32; RECORD],
     pub count: usize,

@@ -9,14 +9,14 @@ ghost use Rattle.walk.specs.Walk.{walk, translate, frame_of, word_of, filled, sl
 use mapping::{ADDRESS_END, Mapping, PAGE_BYTES, WORD_BYTES};
 
 // The table that has the address's slot, and what the slot holds.
-#[derive(Drop)]
+#[derive(Clone, Copy)]
 pub enum Walked {
     At(u32, u32),
     NoTable,
 }
 
 // The slot's word, or a no.
-#[derive(Drop)]
+#[derive(Clone, Copy)]
 pub enum Translated {
     Yes(u32),
     No,
