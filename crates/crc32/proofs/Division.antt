@@ -235,7 +235,7 @@ with_one zero (next {D} q l m) =
     (sym (xor_assoc (D * 2) (q * generator) (1 * generator) ∙ ap (bit_xor (D * 2)) (odds q 1 generator l (omega arith))))
     (next ((q + 1) % 2) (omega arith) m)
 with_one (suc k) none =
-    subst Multiple (xor_zero_r (generator * 2 ^ k * 2) ∙ up k) (next 0 (omega arith) (with_one k none))
+    subst Multiple (xor_zero_r (generator * 2 ^ k * 2) ∙ up k) (next 0 (omega arith) (with_one {D = 0} k none))
 with_one (suc k) (next {D} q l m) =
     let X : ℕ = generator * 2 ^ k in
     subst Multiple
@@ -243,7 +243,7 @@ with_one (suc k) (next {D} q l m) =
     ∙ xor_assoc (D * 2) (X * 2) (q * generator)
     ∙ ap (bit_xor (D * 2)) (xor_comm (X * 2) (q * generator) ∙ ap (bit_xor (q * generator)) (up k))
     ∙ sym (xor_assoc (D * 2) (q * generator) (generator * 2 ^ suc k)))
-    (next q l (with_one k m))
+    (next q l (with_one {D = D} k m))
 
 none_or_high : {D : ℕ} → Multiple D → (D ≡ 0) ⊎ (2 ^ word_bits ≤ D)
 none_or_high none = inl refl

@@ -4,12 +4,8 @@ use Rattle.words.specs.Words.{bit, sum_below}
 use Rattle.crc32.specs.Crc32.{mirrored, bit_in, bits_in}
 use Rattle.crc32.specs.Slices.{slice_at}
 use Rattle.crc32.proofs.Table.{with, table, tables, rule}
-use Rattle.crc32.proofs.slices.slices.Statement.{statement}
-use Rattle.crc32.proofs.slices.slices.Tie as tie
+use Rattle.crc32.proofs.slices.slices.Goals as goal
 
-returns : tie.Need-returns
+pub returns : goal.returns
 unfolding mirrored bit_in bits_in slice_at bit sum_below with table tables
 returns c = rule _ refl
-
-pub slices_spec : {M : Type 1} → statement M
-slices_spec = tie.close (tie.spec returns)
