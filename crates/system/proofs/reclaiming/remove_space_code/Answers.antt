@@ -1,0 +1,10 @@
+use Rattle.words.proofs.Codes.{either_of, refuse_ne}
+use Rattle.system.specs.Calls.{remove_space_code}
+use Rattle.system.proofs.reclaiming.remove_space_code.Goals as goal
+
+pub returns : goal.returns
+unfolding remove_space_code
+returns c =
+    let x = c in
+    let y = x in
+    either_of c.either.ensures (refuse_ne 2 13 y.refuse.ensures y.word.ensures) (refuse_ne 0 14 x.refuse-2.ensures x.word-2.ensures)
