@@ -1,0 +1,22 @@
+-- `close` pads the rest, in one block or in two. Assumes nothing.
+use Rattle.sha256.proofs.Padding.{close_one, close_two}
+use Rattle.std.proofs.Common.{rules}
+use borrow.Author.Rules.{rules}
+use Rattle.sha256.proofs.close.Goals as goal
+
+pub returns-then-at-lt14 : goal.returns-then-at-lt14
+returns-then-at-lt14 c =
+    let s = c in
+    close_one s.args.state s.args.rest.now s.args.n s.requires (search rules)
+    c.with_zeros-b.ensures
+    c.with_length-last.ensures
+    c.compress.ensures
+
+pub returns : goal.returns
+returns c =
+    let s = c in
+    close_two s.args.state s.args.rest.now s.args.n s.requires (search rules)
+    c.with_zeros-b.ensures
+    c.compress-next.ensures
+    c.with_length-last-2.ensures
+    c.compress-2.ensures

@@ -1,0 +1,11 @@
+-- `keyed` digests on from the block. Assumes nothing.
+use Rattle.sha256.proofs.Padding.{digest_keyed}
+use Rattle.std.proofs.Common.{rules}
+use borrow.Author.Rules.{rules}
+use Rattle.sha256.proofs.keyed.Goals as goal
+
+pub returns : goal.returns
+returns c =
+    let s = c in
+    let a = s.args in
+    digest_keyed a.block a.text.now (search rules) s.start.ensures c.compress.ensures c.digest_on.ensures
