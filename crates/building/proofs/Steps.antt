@@ -16,8 +16,7 @@ use Rattle.memory.specs.Memory.{words_of, copied}
 use Rattle.memory.proofs.Frames.{part_is, length-copied, words_copied}
 use Rattle.walk.specs.Walk.{filled, mapped, linked, slot_word}
 use Rattle.answer.specs.Answer.{index_code, numbers}
-use Rattle.answer.specs.declared.Regs.{Regs}
-use Rattle.answer.specs.declared.Answer.TheVariants.{Done, Pair, Runs}
+use Rattle.answer.specs.declared.Answer.TheVariants.{Done}
 use Rattle.answer.proofs.Laws.{did}
 use Rattle.building.specs.Calls.{new_space, thread_block, add_thread, new_thread, init_table_code, new_table, init_table, new_spare, map_secure_code, map_block, add_page, new_data, map_secure, map_insecure_code, map_insecure, finalised}
 use Rattle.building.specs.Parts.{place_code}

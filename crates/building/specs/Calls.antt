@@ -11,8 +11,6 @@ use Rattle.ledger.specs.Names.{state_word, data_blocks, free, space, thread, fir
 use Rattle.ledger.specs.Ledger.{type_of, first_of, state_of, blocks_of, hash, put, occupy, gain, put_hash, measure}
 use Rattle.memory.specs.Memory.{words_of, copied}
 use Rattle.walk.specs.Walk.{filled, mapped, linked, slot_word}
-use Rattle.answer.specs.declared.Regs.{Regs}
-use Rattle.answer.specs.declared.Answer.TheVariants.{Pair, Runs}
 use Rattle.answer.specs.Refusals.{no_such_page, not_free, wrong_state, ill_formed, not_insecure, bad_entry}
 use Rattle.answer.specs.Answer.{Out, done, call, as_code, pg_code, building_code, addr_code, index_code}
 

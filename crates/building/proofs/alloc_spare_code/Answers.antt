@@ -1,0 +1,10 @@
+use Rattle.words.proofs.Codes.{either_of, refuse_eq}
+use Rattle.building.specs.Calls.{alloc_spare_code}
+use Rattle.building.proofs.alloc_spare_code.Goals as goal
+
+pub returns : goal.returns
+unfolding alloc_spare_code
+returns c =
+    let x = c in
+    either_of c.either-2.ensures x.space_code.ensures
+    (either_of c.either.ensures (refuse_eq 2 4 x.refuse.ensures x.word.ensures) x.page_code.ensures)

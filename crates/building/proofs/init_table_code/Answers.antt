@@ -1,0 +1,12 @@
+use Rattle.words.proofs.Codes.{either_of}
+use Rattle.building.specs.Calls.{init_table_code}
+use Rattle.building.proofs.Steps.{index_of}
+use Rattle.building.proofs.init_table_code.Goals as goal
+
+pub returns : goal.returns
+unfolding init_table_code
+returns c =
+    let x = c in
+    either_of c.either-2.ensures x.building_code.ensures
+    (either_of c.either.ensures x.page_code.ensures
+    (index_of _ _ _ x.index_code.ensures x.word.ensures))

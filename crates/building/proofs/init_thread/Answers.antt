@@ -1,0 +1,15 @@
+use mathlib.Core.Path.{refl}
+use Rattle.answer.proofs.Laws.{said, did}
+use Rattle.building.specs.Calls.{init_thread}
+use Rattle.building.proofs.init_thread.Goals as goal
+
+pub returns-then-code-ne0 : goal.returns-then-code-ne0
+unfolding init_thread
+returns-then-code-ne0 c M = said M _ _ c.init_thread_code-code.ensures c.if-code-ne0.true
+
+pub returns : goal.returns
+unfolding init_thread
+returns c M =
+    let x = c in
+    let y = x in
+    did M _ y.init_thread_code-code.ensures y.if-code-ne0.false refl x.new_thread.ensures

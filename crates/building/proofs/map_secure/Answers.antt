@@ -1,0 +1,37 @@
+-- `map_secure` meets its contract: what is measured is read off the copy, and is what was copied.
+use Rattle.answer.proofs.Laws.{said}
+use Rattle.building.specs.Calls.{map_secure}
+use Rattle.building.proofs.Steps.{map_secure_is, copy_within, page_within, page_fits}
+use Rattle.building.proofs.map_secure.Goals as goal
+
+pub returns-then-code-ne0 : goal.returns-then-code-ne0
+unfolding map_secure
+returns-then-code-ne0 c = said _ _ _ c.map_secure_code-code.ensures c.if-code-ne0.true
+
+pub copy-requires : goal.copy-requires
+copy-requires c =
+    let x = c in
+    copy_within _ _ _ x.requires _ _ _ _ x.map_secure_code-code.ensures x.if-code-ne0.false
+
+pub add_page-h-requires : goal.add_page-h-requires
+add_page-h-requires c =
+    let k = c in
+    let x = k in
+    page_within _ _ _ x.requires _ _ _ _ x.map_secure_code-code.ensures x.if-code-ne0.false k.copy.ensures
+
+pub map_page-requires : goal.map_page-requires
+map_page-requires c =
+    let x = c in
+    page_fits _ _ _ x.requires _ _ _ _ x.map_secure_code-code.ensures x.if-code-ne0.false
+
+pub returns : goal.returns
+returns c =
+    let d = c in
+    let m = d in
+    let h = m in
+    let k = h in
+    let x = k in
+    let pre = x.requires in
+    let code = x.map_secure_code-code.ensures in
+    map_secure_is _ _ _ _ _ _ _ code x.if-code-ne0.false (copy_within _ _ _ pre _ _ _ _ code x.if-code-ne0.false) k.copy.ensures
+    h.hash_words.ensures h.add_page-h.ensures m.word.ensures m.map_page.ensures d.new_data.ensures
