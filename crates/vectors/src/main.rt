@@ -3,53 +3,57 @@
 //   a part is a line of two spaces, its name and a colon, and then its words, eight to a line and the rest on the last line;
 //   a line of words is four spaces and the words, with one space between, each by eight lowercase hexadecimal digits;
 //   a part of no words is its first line alone, and a long input is a word and how often it stands there.
+// A write that fails ends the program with its error.
 
 #![tactic(auto)]
 
 ghost use Rattle.std.specs.Prelude.{◌≡◌, ◌+◌, ◌<◌, ◌≤◌, length};
 
-fn say(text: &[u8]) {
-    io::write_all(1, text);
+use std::io;
+
+fn say(out: &impl Print, text: &[u8]) -> io::Result<()> {
+    out.write_all(text)
 }
 
 // What stands before word i.
-fn indent(i: usize) {
+fn indent(out: &impl Print, i: usize) -> io::Result<()> {
     if i % 8 == 0 {
-        say(b"    ");
-        return;
+        return say(out, b"    ");
     }
-    say(b" ");
+    say(out, b" ")
 }
 
 // What stands after word i of n.
-fn end(i: usize, n: usize)
+fn end(out: &impl Print, i: usize, n: usize) -> io::Result<()>
     requires { i < n }
 {
     if i % 8 == 7 {
-        say(b"\n");
-        return;
+        return say(out, b"\n");
     }
     if i == n - 1 {
-        say(b"\n");
+        return say(out, b"\n");
     }
+    Ok(())
 }
 
-fn part(name: &[u8], words: &[u32]) {
-    say(b"  ");
-    say(name);
-    say(b":\n");
+fn part(out: &impl Print, name: &[u8], words: &[u32]) -> io::Result<()> {
+    say(out, b"  ")?;
+    say(out, name)?;
+    say(out, b":\n")?;
     let n = words.len();
     let mut i = 0;
     while i < n {
-        indent(i);
-        io::print_hex(1, words[i] as u64, 8);
-        end(i, n);
+        indent(out, i)?;
+        let word = words[i];
+        print!(out; "{word:08x}")?;
+        end(out, i, n)?;
         i += 1;
     }
+    Ok(())
 }
 
-fn result(words: [u32; 8]) {
-    part(b"result", &words);
+fn result(out: &impl Print, words: [u32; 8]) -> io::Result<()> {
+    part(out, b"result", &words)
 }
 
 fn wide(b: u8) -> u32 {
@@ -82,37 +86,40 @@ fn words(text: &[u8]) -> [u32; 28]
 }
 
 // The digest of the first n of the words.
-fn digest(words: &[u32], n: usize)
+fn digest(out: &impl Print, words: &[u32], n: usize) -> io::Result<()>
     requires { n ≤ length words.now }
 {
     let from = 0;
     let input = &words[from..n];
-    part(b"input", input);
-    result(sha256::digest(input));
+    part(out, b"input", input)?;
+    result(out, sha256::digest(input))
 }
 
 // The digest of a text.
-fn message(name: &[u8], text: &[u8])
+fn message(out: &impl Print, name: &[u8], text: &[u8]) -> io::Result<()>
     requires { length text.now ≤ 112 }
 {
-    say(name);
-    say(b"\n");
+    say(out, name)?;
+    say(out, b"\n")?;
     let w = words(text);
-    digest(&w, text.len() / 4);
+    digest(out, &w, text.len() / 4)
 }
 
-fn abc() {
-    say(b"SHA-256 abc by compress\n");
+fn abc(out: &impl Print) -> io::Result<()> {
+    say(out, b"SHA-256 abc by compress\n")?;
     let mut block = [0u32; 16];
     block[0] = 0x6162_6380;
     block[15] = 24;
-    part(b"block", &block);
-    result(sha256::compress(sha256::start(), &block));
+    part(out, b"block", &block)?;
+    result(out, sha256::compress(sha256::start(), &block))
 }
 
 // A million letters a, a block at a time.
-fn million() {
-    say(b"SHA-256 million letters a\n  input:\n    61616161 250000 times\n");
+fn million(out: &impl Print) -> io::Result<()> {
+    say(
+        out,
+        b"SHA-256 million letters a\n  input:\n    61616161 250000 times\n",
+    )?;
     let block = [0x6161_6161u32; 16];
     let blocks = 15625u32;
     let mut s = sha256::start();
@@ -122,21 +129,28 @@ fn million() {
         s = next;
         i += 1;
     }
-    result(sha256::finish(s, blocks));
+    result(out, sha256::finish(s, blocks))
 }
 
 // The HMAC of the first n words of the text by the first k of the key.
-fn hmac(name: &[u8], key: &[u32], k: usize, text: &[u32], n: usize)
+fn hmac(
+    out: &impl Print,
+    name: &[u8],
+    key: &[u32],
+    k: usize,
+    text: &[u32],
+    n: usize,
+) -> io::Result<()>
     requires { (k ≤ length key.now) × (k ≤ 16) × (n ≤ length text.now) }
 {
-    say(name);
-    say(b"\n");
+    say(out, name)?;
+    say(out, b"\n")?;
     let from = 0;
     let used = &key[from..k];
-    part(b"key", used);
+    part(out, b"key", used)?;
     let said = &text[from..n];
-    part(b"text", said);
-    result(sha256::hmac(used, said));
+    part(out, b"text", said)?;
+    result(out, sha256::hmac(used, said))
 }
 
 // The word of the bytes b, b + 1, b + 2, b + 3, for b below 128.
@@ -162,47 +176,50 @@ fn counted(b: u32) -> [u32; 16]
     w
 }
 
-fn digests() {
-    message(b"SHA-256 empty message", b"");
-    abc();
+fn digests(out: &impl Print) -> io::Result<()> {
+    message(out, b"SHA-256 empty message", b"")?;
+    abc(out)?;
     message(
+        out,
         b"SHA-256 448-bit message",
         b"abcdbcdecdefdefgefghfghighijhijkijkljklmklmnlmnomnopnopq",
-    );
+    )?;
     message(
+        out,
         b"SHA-256 896-bit message",
         b"abcdefghbcdefghicdefghijdefghijkefghijklfghijklmghijklmnhijklmnoijklmnopjklmnopqklmnopqrlmnopqrsmnopqrstnopqrstu",
-    );
-    million();
+    )?;
+    million(out)
 }
 
-fn case1() {
+fn case1(out: &impl Print) -> io::Result<()> {
     let key = [0x0b0b_0b0bu32; 5];
     let text = words(b"Hi There");
-    hmac(b"HMAC-SHA-256 RFC 4231 case 1", &key, 5, &text, 2);
+    hmac(out, b"HMAC-SHA-256 RFC 4231 case 1", &key, 5, &text, 2)
 }
 
-fn case2() {
+fn case2(out: &impl Print) -> io::Result<()> {
     let key = words(b"Jefe");
     let text = words(b"what do ya want for nothing?");
-    hmac(b"HMAC-SHA-256 RFC 4231 case 2", &key, 1, &text, 7);
+    hmac(out, b"HMAC-SHA-256 RFC 4231 case 2", &key, 1, &text, 7)
 }
 
-fn rising_bytes() {
+fn rising_bytes(out: &impl Print) -> io::Result<()> {
     let key = counted(0);
     let text = counted(64);
     hmac(
+        out,
         b"HMAC-SHA-256 key 00 to 1f text 40 to 7f",
         &key,
         8,
         &text,
         16,
-    );
+    )
 }
 
-fn main() {
-    digests();
-    case1();
-    case2();
-    rising_bytes();
+fn main(rt: HostRuntime) -> io::Result<()> {
+    digests(&rt)?;
+    case1(&rt)?;
+    case2(&rt)?;
+    rising_bytes(&rt)
 }

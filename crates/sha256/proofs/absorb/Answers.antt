@@ -12,9 +12,8 @@ loop-b-init c = (search rules, refl)
 
 pub loop-b-preserved : goal.loop-b-preserved
 loop-b-preserved c =
-    let s = c in
     let l = c.loop-b in
-    (search rules, blocks_more s.args.words.now s.args.state l.b l.invariant.1 c.compress-next.ensures)
+    (search rules, blocks_more c.args.words.now c.args.state l.b l.invariant.1 c.compress-next.ensures)
 
 pub returns : goal.returns
 unfolding absorb

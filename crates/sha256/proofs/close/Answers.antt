@@ -6,16 +6,14 @@ use Rattle.sha256.proofs.close.Goals as goal
 
 pub returns-then-at-lt14 : goal.returns-then-at-lt14
 returns-then-at-lt14 c =
-    let s = c in
-    close_one s.args.state s.args.rest.now s.args.n s.requires (search rules)
+    close_one c.args.state c.args.rest.now c.args.n c.requires (search rules)
     c.with_zeros-b.ensures
     c.with_length-last.ensures
     c.compress.ensures
 
 pub returns : goal.returns
 returns c =
-    let s = c in
-    close_two s.args.state s.args.rest.now s.args.n s.requires (search rules)
+    close_two c.args.state c.args.rest.now c.args.n c.requires (search rules)
     c.with_zeros-b.ensures
     c.compress-next.ensures
     c.with_length-last-2.ensures

@@ -6,6 +6,5 @@ use Rattle.sha256.proofs.keyed.Goals as goal
 
 pub returns : goal.returns
 returns c =
-    let s = c in
-    let a = s.args in
-    digest_keyed a.block a.text.now (search rules) s.start.ensures c.compress.ensures c.digest_on.ensures
+    let a = c.args in
+    digest_keyed a.block a.text.now (search rules) c.start.ensures c.compress.ensures c.digest_on.ensures

@@ -10,9 +10,8 @@ loop-i-init c = (search rules, over_none _ _)
 
 pub loop-i-preserved : goal.loop-i-preserved
 loop-i-preserved c =
-    let s = c in
     let l = c.loop-i in
-    (search rules, over_more _ s.args.words.now l.w l.i l.invariant.1 (search rules) (search rules))
+    (search rules, over_more _ c.args.words.now l.w l.i l.invariant.1 (search rules) (search rules))
 
 pub returns : goal.returns
 returns c =

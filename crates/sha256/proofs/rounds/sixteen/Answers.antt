@@ -7,22 +7,7 @@ use Rattle.sha256.proofs.rounds.sixteen.Goals as goal
 pub returns : goal.returns
 unfolding rounds
 returns c =
-    let c15 = c in
-    let c14 = c15 in
-    let c13 = c14 in
-    let c12 = c13 in
-    let c11 = c12 in
-    let c10 = c11 in
-    let c9 = c10 in
-    let c8 = c9 in
-    let c7 = c8 in
-    let c6 = c7 in
-    let c5 = c6 in
-    let c4 = c5 in
-    let c3 = c4 in
-    let c2 = c3 in
-    let c1 = c2 in
-    let s = c1.args in
+    let s = c.args in
     rounds_more s.k.now s.w.now s.v0 15
     (rounds_more s.k.now s.w.now s.v0 14
     (rounds_more s.k.now s.w.now s.v0 13
@@ -40,19 +25,19 @@ returns c =
     (rounds_more s.k.now s.w.now s.v0 1
     (rounds_more s.k.now s.w.now s.v0 0
     refl
-    c1.at-v.ensures)
-    c2.at-v-2.ensures)
-    c3.at-v-3.ensures)
-    c4.at-v-4.ensures)
-    c5.at-v-5.ensures)
-    c6.at-v-6.ensures)
-    c7.at-v-7.ensures)
-    c8.at-v-8.ensures)
-    c9.at-v-9.ensures)
-    c10.at-v-10.ensures)
-    c11.at-v-11.ensures)
-    c12.at-v-12.ensures)
-    c13.at-v-13.ensures)
-    c14.at-v-14.ensures)
-    c15.at-v-15.ensures)
+    c.at-v.ensures)
+    c.at-v-2.ensures)
+    c.at-v-3.ensures)
+    c.at-v-4.ensures)
+    c.at-v-5.ensures)
+    c.at-v-6.ensures)
+    c.at-v-7.ensures)
+    c.at-v-8.ensures)
+    c.at-v-9.ensures)
+    c.at-v-10.ensures)
+    c.at-v-11.ensures)
+    c.at-v-12.ensures)
+    c.at-v-13.ensures)
+    c.at-v-14.ensures)
+    c.at-v-15.ensures)
     c.at-v-16.ensures

@@ -4,5 +4,4 @@ use Rattle.sha256.proofs.schedule.roll.Goals as goal
 
 pub returns : goal.returns
 returns c =
-    let s = c in
-    ap (set s.args.w.now s.args.i) c.mixed.ensures
+    ap (set c.args.w.now c.args.i) c.mixed.ensures
