@@ -6,8 +6,8 @@ returns-in_default c = without_table _ _ _ _ c.walk.ensures c.in_default.is
 
 pub returns-then-v-eq0 : goal.returns-then-v-eq0
 returns-then-v-eq0 c =
-    let v = c in free_slot _ _ _ _ v.walk.ensures v.in-At.is c.if-v-eq0.true
+    free_slot _ _ _ _ c.walk.ensures c.in-At.is c.if-v-eq0.true
 
 pub returns : goal.returns
 returns c =
-    let v = c in taken_slot _ _ _ _ v.walk.ensures v.in-At.is c.if-v-eq0.false
+    taken_slot _ _ _ _ c.walk.ensures c.in-At.is c.if-v-eq0.false

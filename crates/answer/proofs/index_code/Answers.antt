@@ -6,10 +6,8 @@ returns-then-i-ge-MOST_TABLES c = past_index _ _ _ _ c.if-i-ge-MOST_TABLES.true
 
 pub returns-then-word-eq0 : goal.returns-then-word-eq0
 returns-then-word-eq0 c =
-    let f = c in
-    free_index _ _ _ _ f.if-i-ge-MOST_TABLES.false f.frame_of.ensures c.word.ensures c.if-word-eq0.true
+    free_index _ _ _ _ c.if-i-ge-MOST_TABLES.false c.frame_of.ensures c.word.ensures c.if-word-eq0.true
 
 pub returns : goal.returns
 returns c =
-    let f = c in
-    taken_index _ _ _ _ f.if-i-ge-MOST_TABLES.false f.frame_of.ensures c.word.ensures c.if-word-eq0.false
+    taken_index _ _ _ _ c.if-i-ge-MOST_TABLES.false c.frame_of.ensures c.word.ensures c.if-word-eq0.false

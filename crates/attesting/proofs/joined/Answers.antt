@@ -3,5 +3,4 @@ use Rattle.attesting.proofs.joined.Goals as goal
 
 pub returns : goal.returns
 returns c =
-    let s = c in
-    both_listed s.args.m.now s.args.d.now s.requires.0 s.requires.1
+    both_listed c.args.m.now c.args.d.now c.requires.0 c.requires.1

@@ -3,4 +3,4 @@ use Rattle.building.proofs.add_page.Goals as goal
 
 pub returns : goal.returns
 returns c =
-    let x = c in add_page_is _ _ _ _ x.map_block-block.ensures x.compress.ensures c.absorb.ensures
+    add_page_is _ _ _ _ c.map_block-block.ensures c.compress.ensures c.absorb.ensures

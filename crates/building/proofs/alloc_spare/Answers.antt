@@ -10,6 +10,4 @@ returns-then-code-ne0 c M = said M _ _ c.alloc_spare_code-code.ensures c.if-code
 pub returns : goal.returns
 unfolding alloc_spare
 returns c M =
-    let x = c in
-    let y = x in
-    did M _ y.alloc_spare_code-code.ensures y.if-code-ne0.false refl x.new_spare.ensures
+    did M _ c.alloc_spare_code-code.ensures c.if-code-ne0.false refl c.new_spare.ensures

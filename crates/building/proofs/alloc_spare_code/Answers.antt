@@ -5,6 +5,5 @@ use Rattle.building.proofs.alloc_spare_code.Goals as goal
 pub returns : goal.returns
 unfolding alloc_spare_code
 returns c =
-    let x = c in
-    either_of c.either-2.ensures x.space_code.ensures
-    (either_of c.either.ensures (refuse_eq 2 4 x.refuse.ensures x.word.ensures) x.page_code.ensures)
+    either_of c.either-2.ensures c.space_code.ensures
+    (either_of c.either.ensures (refuse_eq 2 4 c.refuse.ensures c.word.ensures) c.page_code.ensures)

@@ -10,6 +10,4 @@ returns-then-code-ne0 c M = said M _ _ c.building_code-code.ensures c.if-code-ne
 pub returns : goal.returns
 unfolding finalise
 returns c M =
-    let x = c in
-    let y = x in
-    did M _ y.building_code-code.ensures y.if-code-ne0.false refl x.close_space.ensures
+    did M _ c.building_code-code.ensures c.if-code-ne0.false refl c.close_space.ensures

@@ -10,6 +10,4 @@ returns-then-code-ne0 c M = said M _ _ c.init_addr_space_code-code.ensures c.if-
 pub returns : goal.returns
 unfolding init_addr_space
 returns c M =
-    let x = c in
-    let y = x in
-    did M _ y.init_addr_space_code-code.ensures y.if-code-ne0.false refl x.new_space.ensures
+    did M _ c.init_addr_space_code-code.ensures c.if-code-ne0.false refl c.new_space.ensures

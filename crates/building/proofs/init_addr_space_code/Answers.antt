@@ -6,6 +6,5 @@ use Rattle.building.proofs.init_addr_space_code.Goals as goal
 pub returns : goal.returns
 unfolding init_addr_space_code two_free_code
 returns c =
-    let x = c in
-    either_of c.either-2.ensures x.refuse.ensures
-    (either_of c.either.ensures x.refuse-2.ensures x.two_free_code.ensures)
+    either_of c.either-2.ensures c.refuse.ensures
+    (either_of c.either.ensures c.refuse-2.ensures c.two_free_code.ensures)

@@ -10,11 +10,8 @@ returns-then-code-ne0 c = said _ _ _ c.init_table_code-code.ensures c.if-code-ne
 
 pub link-requires : goal.link-requires
 link-requires c =
-    let x = c in omega (arith, table_below _ _ _ _ _ _ x.init_table_code-code.ensures x.if-code-ne0.false)
+    omega (arith, table_below _ _ _ _ _ _ c.init_table_code-code.ensures c.if-code-ne0.false)
 
 pub returns : goal.returns
 returns c =
-    let x = c in
-    let y = x in
-    let z = y in
-    init_table_is _ _ _ _ _ _ z.init_table_code-code.ensures z.if-code-ne0.false y.word.ensures y.link.ensures x.new_table.ensures
+    init_table_is _ _ _ _ _ _ c.init_table_code-code.ensures c.if-code-ne0.false c.word.ensures c.link.ensures c.new_table.ensures

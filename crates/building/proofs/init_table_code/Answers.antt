@@ -6,7 +6,6 @@ use Rattle.building.proofs.init_table_code.Goals as goal
 pub returns : goal.returns
 unfolding init_table_code
 returns c =
-    let x = c in
-    either_of c.either-2.ensures x.building_code.ensures
-    (either_of c.either.ensures x.page_code.ensures
-    (index_of _ _ _ x.index_code.ensures x.word.ensures))
+    either_of c.either-2.ensures c.building_code.ensures
+    (either_of c.either.ensures c.page_code.ensures
+    (index_of _ _ _ c.index_code.ensures c.word.ensures))

@@ -10,6 +10,4 @@ returns-then-code-ne0 c M = said M _ _ c.init_thread_code-code.ensures c.if-code
 pub returns : goal.returns
 unfolding init_thread
 returns c M =
-    let x = c in
-    let y = x in
-    did M _ y.init_thread_code-code.ensures y.if-code-ne0.false refl x.new_thread.ensures
+    did M _ c.init_thread_code-code.ensures c.if-code-ne0.false refl c.new_thread.ensures

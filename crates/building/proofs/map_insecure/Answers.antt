@@ -10,13 +10,9 @@ returns-then-code-ne0 c = said _ _ _ c.map_insecure_code-code.ensures c.if-code-
 
 pub slot_word-requires : goal.slot_word-requires
 slot_word-requires c =
-    let x = c in
-    (slot_fits _ _ _ x.requires _ _ _ x.map_insecure_code-code.ensures x.if-code-ne0.false, omega (arith, c.rights.ensures))
+    (slot_fits _ _ _ c.requires _ _ _ c.map_insecure_code-code.ensures c.if-code-ne0.false, omega (arith, c.rights.ensures))
 
 pub returns : goal.returns
 returns c =
-    let x = c in
-    let y = x in
-    let z = y in
-    map_insecure_is _ _ _ _ _ _ z.map_insecure_code-code.ensures z.if-code-ne0.false y.word.ensures y.rights.ensures
-    x.slot_word.ensures x.fill.ensures
+    map_insecure_is _ _ _ _ _ _ c.map_insecure_code-code.ensures c.if-code-ne0.false c.word.ensures c.rights.ensures
+    c.slot_word.ensures c.fill.ensures

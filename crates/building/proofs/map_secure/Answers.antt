@@ -10,28 +10,19 @@ returns-then-code-ne0 c = said _ _ _ c.map_secure_code-code.ensures c.if-code-ne
 
 pub copy-requires : goal.copy-requires
 copy-requires c =
-    let x = c in
-    copy_within _ _ _ x.requires _ _ _ _ x.map_secure_code-code.ensures x.if-code-ne0.false
+    copy_within _ _ _ c.requires _ _ _ _ c.map_secure_code-code.ensures c.if-code-ne0.false
 
 pub add_page-h-requires : goal.add_page-h-requires
 add_page-h-requires c =
-    let k = c in
-    let x = k in
-    page_within _ _ _ x.requires _ _ _ _ x.map_secure_code-code.ensures x.if-code-ne0.false k.copy.ensures
+    page_within _ _ _ c.requires _ _ _ _ c.map_secure_code-code.ensures c.if-code-ne0.false c.copy.ensures
 
 pub map_page-requires : goal.map_page-requires
 map_page-requires c =
-    let x = c in
-    page_fits _ _ _ x.requires _ _ _ _ x.map_secure_code-code.ensures x.if-code-ne0.false
+    page_fits _ _ _ c.requires _ _ _ _ c.map_secure_code-code.ensures c.if-code-ne0.false
 
 pub returns : goal.returns
 returns c =
-    let d = c in
-    let m = d in
-    let h = m in
-    let k = h in
-    let x = k in
-    let pre = x.requires in
-    let code = x.map_secure_code-code.ensures in
-    map_secure_is _ _ _ _ _ _ _ code x.if-code-ne0.false (copy_within _ _ _ pre _ _ _ _ code x.if-code-ne0.false) k.copy.ensures
-    h.hash_words.ensures h.add_page-h.ensures m.word.ensures m.map_page.ensures d.new_data.ensures
+    let pre = c.requires in
+    let code = c.map_secure_code-code.ensures in
+    map_secure_is _ _ _ _ _ _ _ code c.if-code-ne0.false (copy_within _ _ _ pre _ _ _ _ code c.if-code-ne0.false) c.copy.ensures
+    c.hash_words.ensures c.add_page-h.ensures c.word.ensures c.map_page.ensures c.new_data.ensures

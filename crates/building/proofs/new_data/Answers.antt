@@ -3,6 +3,4 @@ use Rattle.building.proofs.new_data.Goals as goal
 
 pub returns : goal.returns
 returns c =
-    let x = c in
-    let y = x in
-    new_data_is _ _ _ _ _ y.occupy_data.ensures y.gain_page.ensures x.add_blocks.ensures
+    new_data_is _ _ _ _ _ c.occupy_data.ensures c.gain_page.ensures c.add_blocks.ensures

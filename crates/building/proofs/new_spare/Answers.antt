@@ -2,4 +2,4 @@ use Rattle.building.proofs.Steps.{new_spare_is}
 use Rattle.building.proofs.new_spare.Goals as goal
 
 pub returns : goal.returns
-returns c = let x = c in new_spare_is _ _ _ x.occupy_page.ensures x.gain_page.ensures
+returns c = new_spare_is _ _ _ c.occupy_page.ensures c.gain_page.ensures

@@ -5,5 +5,4 @@ use Rattle.building.proofs.place_code.Goals as goal
 pub returns : goal.returns
 unfolding place_code
 returns c =
-    let x = c in
-    either_of c.either.ensures x.addr_code.ensures (refuse_not 9 x.refuse.ensures x.insecure.ensures)
+    either_of c.either.ensures c.addr_code.ensures (refuse_not 9 c.refuse.ensures c.insecure.ensures)

@@ -5,8 +5,5 @@ use Rattle.building.proofs.two_free_code.Goals as goal
 pub returns : goal.returns
 unfolding two_free_code
 returns c =
-    let x = c in
-    let y = x in
-    let z = y in
-    either_of c.either-2.ensures (refuse_ne 0 2 z.refuse.ensures z.word.ensures)
-    (either_of c.either.ensures (refuse_ne 0 2 y.refuse-2.ensures y.word-2.ensures) x.refuse-3.ensures)
+    either_of c.either-2.ensures (refuse_ne 0 2 c.refuse.ensures c.word.ensures)
+    (either_of c.either.ensures (refuse_ne 0 2 c.refuse-2.ensures c.word-2.ensures) c.refuse-3.ensures)

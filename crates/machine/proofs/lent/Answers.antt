@@ -6,9 +6,8 @@ returns-then-not-fits c x = no_fails c.fits.result c.fits.ensures c.if-not-fits.
 
 pub returns : goal.returns
 returns c =
-    let d = c in
     record {
-      fits = yes_holds d.fits.result d.fits.ensures d.if-not-fits.false;
+      fits = yes_holds c.fits.result c.fits.ensures c.if-not-fits.false;
       memory = c.if-mem-b.false;
       ledger = c.if-led-b.false;
     }

@@ -1,31 +1,25 @@
-use Prim.Native.Nat.{◌-◌, ◌≤◌}
-use mathlib.Core.Path.{◌≡◌, refl, ◌∙◌}
+use mathlib.Core.Path.{refl, ◌∙◌}
 use native.Mathlib.Omega.{arith}
-use lib.ListN.{length, take, length-set}
-use Rattle.words.specs.Words.{paste}
+use lib.ListN.{length-set}
 use Rattle.words.proofs.Paste.{paste_none, paste_turn, paste_all}
 use Rattle.machine.specs.Machine.{frame_words}
 use Rattle.memory.specs.Memory.{words_of, copied}
 use Rattle.memory.proofs.Frames.{length_words_of, source}
 use Rattle.memory.proofs.copy.Goals as goal
 
--- loop loop-i: mem, f (unchanged), g (unchanged), from (unchanged), to (unchanged), i
-
 pub loop-i-init : goal.loop-i-init
 loop-i-init c = (omega arith, refl, paste_none _ _ (words_of c.args.mem.now c.args.f))
 
 pub loop-i-preserved : goal.loop-i-preserved
 loop-i-preserved c =
-    let s = c in
     let e = c.loop-i.invariant.2 in
-    let long = length_words_of s.args.mem.now s.args.f s.requires.0 in (
+    let long = length_words_of c.args.mem.now c.args.f c.requires.0 in (
       omega arith,
       simp length-set (omega arith),
-      paste_turn _ _ _ _ e (source _ _ _ s.requires.0 s.requires.1 _ e s.requires.2 (omega arith)) (omega arith) (omega (arith, long)),
+      paste_turn _ _ _ _ e (source _ _ _ c.requires.0 c.requires.1 _ e c.requires.2 (omega arith)) (omega arith) (omega (arith, long)),
     )
 
 pub returns : goal.returns
 unfolding copied
 returns c =
-    let s = c in
-    c.loop-i.invariant.2 ∙ paste_all _ _ frame_words _ _ (length_words_of _ s.args.f s.requires.0) (omega arith) (omega arith)
+    c.loop-i.invariant.2 ∙ paste_all _ _ frame_words _ _ (length_words_of _ c.args.f c.requires.0) (omega arith) (omega arith)

@@ -1,13 +1,10 @@
 -- `copy` meets its contract. The loop's invariant: the first i words of frame f are pasted.
 use Prim.Native.Nat.{◌-◌, ◌≤◌}
-use mathlib.Core.Path.{◌≡◌, refl, ◌∙◌}
-use native.Mathlib.Omega.{arith}
-use lib.ListN.{length, take, length-set}
+use mathlib.Core.Path.{◌≡◌}
+use lib.ListN.{length, take}
 use Rattle.words.specs.Words.{paste}
-use Rattle.words.proofs.Paste.{paste_none, paste_turn, paste_all}
 use Rattle.machine.specs.Machine.{frame_words}
-use Rattle.memory.specs.Memory.{words_of, copied}
-use Rattle.memory.proofs.Frames.{length_words_of, source}
+use Rattle.memory.specs.Memory.{words_of}
 use Rattle.memory.proofs.copy.Given as goal
 
 abbrev pub invariant-loop-i : goal.invariant-loop-i

@@ -1,16 +1,12 @@
-use Prim.Native.Nat.{◌-◌, ◌≤◌}
-use mathlib.Core.Path.{◌≡◌, refl, sym, ◌∙◌}
+use mathlib.Core.Path.{refl, sym, ◌∙◌}
 use native.Mathlib.Omega.{arith}
-use lib.ListN.{length, take, length-set}
-use Rattle.words.specs.Words.{paste}
+use lib.ListN.{length-set}
 use Rattle.words.proofs.Paste.{paste_none, paste_turn, paste_all}
 use Rattle.words.proofs.Lists.{zeros_at}
 use Rattle.machine.specs.Machine.{frame_words}
 use Rattle.memory.specs.Memory.{wiped}
 use Rattle.memory.proofs.Frames.{zeros, length-zeros}
 use Rattle.memory.proofs.wipe.Goals as goal
-
--- loop loop-k: mem, g (unchanged), to (unchanged), k
 
 pub loop-k-init : goal.loop-k-init
 loop-k-init c = (omega arith, refl, paste_none _ _ zeros)

@@ -1,14 +1,10 @@
 -- `wipe` meets its contract. The loop's invariant: k zeros are pasted.
 use Prim.Native.Nat.{◌-◌, ◌≤◌}
-use mathlib.Core.Path.{◌≡◌, refl, sym, ◌∙◌}
-use native.Mathlib.Omega.{arith}
-use lib.ListN.{length, take, length-set}
+use mathlib.Core.Path.{◌≡◌}
+use lib.ListN.{length, take}
 use Rattle.words.specs.Words.{paste}
-use Rattle.words.proofs.Paste.{paste_none, paste_turn, paste_all}
-use Rattle.words.proofs.Lists.{zeros_at}
 use Rattle.machine.specs.Machine.{frame_words}
-use Rattle.memory.specs.Memory.{wiped}
-use Rattle.memory.proofs.Frames.{zeros, length-zeros}
+use Rattle.memory.proofs.Frames.{zeros}
 use Rattle.memory.proofs.wipe.Given as goal
 
 abbrev pub invariant-loop-k : goal.invariant-loop-k

@@ -6,7 +6,5 @@ returns-in_default c = not_filled _ _ _ _ _ c.walk.ensures c.in_default.is
 
 pub returns : goal.returns
 returns c =
-    let s = c in
-    let p = s in
-    is_filled _ _ _ _ _ p.walk.ensures p.in-At.is s.frame_of.ensures s.slot.ensures
+    is_filled _ _ _ _ _ c.walk.ensures c.in-At.is c.frame_of.ensures c.slot.ensures
     c.put_word.ensures

@@ -11,34 +11,23 @@ returns-then-va-ge-ADDRESS_END c = high _ _ _ _ _ c.if-va-ne0.false c.if-va-ge-A
 
 pub returns-in_default : goal.returns-in_default
 returns-in_default c =
-    let w = c in
-    unmapped _ _ _ _ _ w.if-va-ne0.false w.if-va-ge-ADDRESS_END.false w.walk.ensures c.in_default.is
+    unmapped _ _ _ _ _ c.if-va-ne0.false c.if-va-ge-ADDRESS_END.false c.walk.ensures c.in_default.is
 
 pub returns-then-v-eq0 : goal.returns-then-v-eq0
 returns-then-v-eq0 c =
-    let v = c in
-    let w = v in
-    empty _ _ _ _ _ w.if-va-ne0.false w.if-va-ge-ADDRESS_END.false w.walk.ensures v.in-At.is c.if-v-eq0.true
+    empty _ _ _ _ _ c.if-va-ne0.false c.if-va-ge-ADDRESS_END.false c.walk.ensures c.in-At.is c.if-v-eq0.true
 
 pub returns-then-not-writes : goal.returns-then-not-writes
 returns-then-not-writes c =
-    let n = c in
-    let v = n in
-    let w = v in
-    unwritten _ _ _ _ _ w.if-va-ne0.false w.if-va-ge-ADDRESS_END.false w.walk.ensures v.in-At.is n.if-v-eq0.false
+    unwritten _ _ _ _ _ c.if-va-ne0.false c.if-va-ge-ADDRESS_END.false c.walk.ensures c.in-At.is c.if-v-eq0.false
     c.if-write.true c.writes.ensures (ap not c.if-not-writes.true)
 
 pub returns-else-not-writes : goal.returns-else-not-writes
 returns-else-not-writes c =
-    let n = c in
-    let v = n in
-    let w = v in
-    written _ _ _ _ _ w.if-va-ne0.false w.if-va-ge-ADDRESS_END.false w.walk.ensures v.in-At.is n.if-v-eq0.false
+    written _ _ _ _ _ c.if-va-ne0.false c.if-va-ge-ADDRESS_END.false c.walk.ensures c.in-At.is c.if-v-eq0.false
     c.if-write.true c.writes.ensures (ap not c.if-not-writes.false)
 
 pub returns-else-write : goal.returns-else-write
 returns-else-write c =
-    let v = c in
-    let w = v in
-    read _ _ _ _ _ w.if-va-ne0.false w.if-va-ge-ADDRESS_END.false w.walk.ensures v.in-At.is c.if-v-eq0.false
+    read _ _ _ _ _ c.if-va-ne0.false c.if-va-ge-ADDRESS_END.false c.walk.ensures c.in-At.is c.if-v-eq0.false
     c.if-write.false

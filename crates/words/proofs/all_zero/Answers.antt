@@ -9,8 +9,6 @@ use native.Mathlib.Decide.{dec_lt}
 use Rattle.words.proofs.all_zero.Invariants.{Zero}
 use Rattle.words.proofs.all_zero.Goals as goal
 
--- loop loop-k: words (unchanged), lo (unchanged), seen, k
-
 or_none : (a b : ℕ) → bit_or a b ≡ 0 → (a ≡ 0) × (b ≡ 0)
 or_none a b e =
     let s : bit_or a b + bit_and a b ≡ a + b = or_add_and a b in

@@ -5,8 +5,6 @@ use lib.ListN.{length, replicate, length-set, length-replicate, get_or-replicate
 use Rattle.words.proofs.Lists.{fill_turn, fill_all}
 use Rattle.words.proofs.clear.Goals as goal
 
--- loop loop-i: out, i
-
 pub loop-i-preserved : goal.loop-i-preserved
 loop-i-preserved c =
     let l = c.loop-i in

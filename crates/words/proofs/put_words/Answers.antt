@@ -4,8 +4,6 @@ use lib.ListN.{length-set}
 use Rattle.words.proofs.Paste.{paste_none, paste_turn, paste_all}
 use Rattle.words.proofs.put_words.Goals as goal
 
--- loop loop-i: out, from (unchanged), vs (unchanged), i
-
 pub loop-i-init : goal.loop-i-init
 loop-i-init c = (omega arith, refl, paste_none _ c.args.from c.args.vs.now)
 

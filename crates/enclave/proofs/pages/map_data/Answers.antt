@@ -9,14 +9,9 @@ returns-then-code-ne0 c = said _ _ _ c.map_data_code-code.ensures c.if-code-ne0.
 
 pub map_page-requires : goal.map_page-requires
 map_page-requires c =
-    let t = c in
-    let s = t in
-    data_fits _ _ _ _ t.if-code-ne0.false s.requires _ t.map_data_code-code.ensures
+    data_fits _ _ _ _ c.if-code-ne0.false c.requires _ c.map_data_code-code.ensures
 
 pub returns : goal.returns
 returns c =
-    let o = c in
-    let m = o in
-    let t = m in
-    data_mapped _ _ _ _ t.if-code-ne0.false m.first_page.ensures o.running_owner-a.ensures _ t.map_data_code-code.ensures
-    m.map_page.ensures c.renew_data.ensures
+    data_mapped _ _ _ _ c.if-code-ne0.false c.first_page.ensures c.running_owner-a.ensures _ c.map_data_code-code.ensures
+    c.map_page.ensures c.renew_data.ensures

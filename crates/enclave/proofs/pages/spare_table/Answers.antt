@@ -10,12 +10,9 @@ returns-then-code-ne0 c = said _ _ _ c.spare_table_code-code.ensures c.if-code-n
 
 pub link-requires : goal.link-requires
 link-requires c =
-    let t = c in omega (arith, table_fits _ _ _ _ t.if-code-ne0.false _ t.spare_table_code-code.ensures)
+    omega (arith, table_fits _ _ _ _ c.if-code-ne0.false _ c.spare_table_code-code.ensures)
 
 pub returns : goal.returns
 returns c =
-    let o = c in
-    let m = o in
-    let t = m in
-    table_made _ _ _ _ t.if-code-ne0.false m.first_page.ensures o.running_owner-a.ensures _ t.spare_table_code-code.ensures
-    m.link.ensures c.renew.ensures
+    table_made _ _ _ _ c.if-code-ne0.false c.first_page.ensures c.running_owner-a.ensures _ c.spare_table_code-code.ensures
+    c.link.ensures c.renew.ensures

@@ -9,17 +9,9 @@ returns-then-code-ne0 c = said _ _ _ c.own_code-code.ensures c.if-code-ne0.true
 
 pub wipe-requires : goal.wipe-requires
 wipe-requires c =
-    let f = c in
-    let t = f in
-    let s = t in
-    data_lent _ _ _ _ t.if-code-ne0.false s.requires _ _ _ t.own_code-code.ensures f.fill.ensures
+    data_lent _ _ _ _ c.if-code-ne0.false c.requires _ _ _ c.own_code-code.ensures c.fill.ensures
 
 pub returns : goal.returns
 returns c =
-    let o = c in
-    let w = o in
-    let f = w in
-    let m = f in
-    let t = m in
-    data_unmapped _ _ _ _ t.if-code-ne0.false f.first_page.ensures o.running_owner-a.ensures t.own_code-code.ensures
-    m.mapping_word-map.ensures f.fill.ensures w.wipe.ensures c.renew.ensures
+    data_unmapped _ _ _ _ c.if-code-ne0.false c.first_page.ensures c.running_owner-a.ensures c.own_code-code.ensures
+    c.mapping_word-map.ensures c.fill.ensures c.wipe.ensures c.renew.ensures

@@ -3,8 +3,5 @@ use Rattle.enclave.proofs.run.interrupt.Goals as goal
 
 pub returns : goal.returns
 returns c M =
-    let s = c in
-    let t = s in
-    let w = t in
-    suspends w.of.result M _ w.of.ensures w.suspended_words-w.ensures t.running_page-t.ensures
-    s.store_words.ensures c.set_running.ensures
+    suspends c.of.result M _ c.of.ensures c.suspended_words-w.ensures c.running_page-t.ensures
+    c.store_words.ensures c.set_running.ensures

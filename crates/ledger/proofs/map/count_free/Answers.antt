@@ -5,8 +5,6 @@ use Rattle.machine.specs.Machine.{map_words}
 use Rattle.ledger.proofs.Ones.{count_on, count_le}
 use Rattle.ledger.proofs.map.count_free.Goals as goal
 
--- loop loop-j: led (unchanged), sum, j
-
 pub loop-j-init : goal.loop-j-init
 unfolding sum_below
 loop-j-init c = (omega arith, refl)

@@ -3,8 +3,6 @@ use lib.Count.{trailing_le}
 use Rattle.ledger.proofs.Ones.{found_here, not_found}
 use Rattle.ledger.proofs.map.lowest_free.Goals as goal
 
--- loop loop-j: led (unchanged), base, j
-
 pub loop-j-init : goal.loop-j-init
 loop-j-init c = (omega arith, refl, λ i l. absurd (omega arith))
 

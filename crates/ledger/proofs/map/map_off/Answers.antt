@@ -8,8 +8,7 @@ use Rattle.ledger.proofs.map.map_off.Goals as goal
 pub returns : goal.returns
 unfolding map_off header
 returns c =
-    let s = c in
-    changed s.args.led.now (map_start + s.args.p / 32) (λ w. bit_off w (s.args.p % 32))
+    changed c.args.led.now (map_start + c.args.p / 32) (λ w. bit_off w (c.args.p % 32))
     c.read-w.ensures
     c.bit_off-v.ensures
     c.write.ensures

@@ -2,7 +2,6 @@ use Rattle.std.proofs.Common.{ℕ, List, ◌∷◌, ap, rules}
 use Rattle.words.specs.Words.{padded}
 use Rattle.ledger.specs.Ledger.{eight}
 use Rattle.ledger.proofs.Effects.{eight_same}
-use borrow.Author.Rules.{rules}
 use Rattle.ledger.proofs.pages.space_record.Goals as goal
 
 pub returns : goal.returns

@@ -2,8 +2,6 @@ use Rattle.std.proofs.Common.{sym, refl, ◌∙◌, add-zero, arith}
 use Rattle.ledger.proofs.Puts.{puts_step, puts_end}
 use Rattle.ledger.proofs.records.store_each.Goals as goal
 
--- loop loop-i: led, p (unchanged), k (unchanged), vs (unchanged), i
-
 pub loop-i-init : goal.loop-i-init
 loop-i-init c = (omega arith, refl, rw add-zero)
 

@@ -2,8 +2,6 @@ use Rattle.std.proofs.Common.{sym, refl, ◌∙◌, add-zero, arith, length-set}
 use Rattle.ledger.proofs.Puts.{puts_place, puts_end}
 use Rattle.ledger.proofs.records.store_inside.Goals as goal
 
--- loop loop-i: led, at (unchanged), p (unchanged), k (unchanged), vs (unchanged), i
-
 pub loop-i-init : goal.loop-i-init
 loop-i-init c = (omega arith, refl, rw add-zero)
 

@@ -9,12 +9,8 @@ returns-then-code-ne0 c = said _ _ _ c.remove_code-code.ensures c.if-code-ne0.tr
 
 pub wipe-requires : goal.wipe-requires
 wipe-requires c =
-    let x = c in remove_within _ _ _ x.requires _ x.remove_code-code.ensures x.if-code-ne0.false
+    remove_within _ _ _ c.requires _ c.remove_code-code.ensures c.if-code-ne0.false
 
 pub returns : goal.returns
 returns c =
-    let x = c in
-    let y = x in
-    let z = y in
-    let u = z in
-    remove_is _ _ _ _ u.remove_code-code.ensures u.if-code-ne0.false z.wipe.ensures y.leave.ensures x.vacate_page.ensures
+    remove_is _ _ _ _ c.remove_code-code.ensures c.if-code-ne0.false c.wipe.ensures c.leave.ensures c.vacate_page.ensures

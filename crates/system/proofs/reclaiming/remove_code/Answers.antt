@@ -9,10 +9,8 @@ returns-then-t-eq-FREE c = remove_free _ _ c.word-t.ensures _ c.if-b-p.false c.i
 
 pub returns-then-t-eq-SPACE : goal.returns-then-t-eq-SPACE
 returns-then-t-eq-SPACE c =
-    let x = c in
-    remove_space _ _ x.word-t.ensures _ x.if-b-p.false x.if-t-eq-FREE.false c.if-t-eq-SPACE.true c.remove_space_code.ensures
+    remove_space _ _ c.word-t.ensures _ c.if-b-p.false c.if-t-eq-FREE.false c.if-t-eq-SPACE.true c.remove_space_code.ensures
 
 pub returns : goal.returns
 returns c =
-    let x = c in
-    remove_other _ _ x.word-t.ensures _ x.if-b-p.false x.if-t-eq-FREE.false c.if-t-eq-SPACE.false c.remove_other_code.ensures
+    remove_other _ _ c.word-t.ensures _ c.if-b-p.false c.if-t-eq-FREE.false c.if-t-eq-SPACE.false c.remove_other_code.ensures

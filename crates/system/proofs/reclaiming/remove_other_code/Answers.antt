@@ -7,6 +7,5 @@ returns-then-word-eq-SPARE c = other_spare _ _ c.word.ensures c.if-word-eq-SPARE
 
 pub returns : goal.returns
 returns c =
-    let x = c in
-    other_owned _ _ x.word.ensures x.if-word-eq-SPARE.false
+    other_owned _ _ c.word.ensures c.if-word-eq-SPARE.false
     (refuse_ne 2 13 c.refuse.ensures (owner_state _ _ c.word-3.ensures c.word-2.ensures))

@@ -5,6 +5,4 @@ use Rattle.system.proofs.reclaiming.remove_space_code.Goals as goal
 pub returns : goal.returns
 unfolding remove_space_code
 returns c =
-    let x = c in
-    let y = x in
-    either_of c.either.ensures (refuse_ne 2 13 y.refuse.ensures y.word.ensures) (refuse_ne 0 14 x.refuse-2.ensures x.word-2.ensures)
+    either_of c.either.ensures (refuse_ne 2 13 c.refuse.ensures c.word.ensures) (refuse_ne 0 14 c.refuse-2.ensures c.word-2.ensures)

@@ -10,6 +10,4 @@ returns-then-code-ne0 c M = said M _ _ c.space_code-code.ensures c.if-code-ne0.t
 pub returns : goal.returns
 unfolding stop
 returns c M =
-    let x = c in
-    let y = x in
-    did M _ y.space_code-code.ensures y.if-code-ne0.false refl x.store.ensures
+    did M _ c.space_code-code.ensures c.if-code-ne0.false refl c.store.ensures

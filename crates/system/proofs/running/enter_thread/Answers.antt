@@ -10,11 +10,8 @@ returns-then-code-ne0 c M = said M _ _ c.enter_code-code.ensures c.if-code-ne0.t
 
 pub overflow_add-t : goal.overflow_add-t
 overflow_add-t c =
-    let x = c in omega (arith, enter_below _ _ _ x.enter_code-code.ensures x.if-code-ne0.false)
+    omega (arith, enter_below _ _ _ c.enter_code-code.ensures c.if-code-ne0.false)
 
 pub returns : goal.returns
 returns c M =
-    let x = c in
-    let y = x in
-    let z = y in
-    enter_is _ M _ _ _ _ _ _ z.enter_code-code.ensures z.if-code-ne0.false y.word.ensures y.first_regs-regs.ensures x.set_running.ensures
+    enter_is _ M _ _ _ _ _ _ c.enter_code-code.ensures c.if-code-ne0.false c.word.ensures c.first_regs-regs.ensures c.set_running.ensures

@@ -10,12 +10,8 @@ returns-then-code-ne0 c M = said M _ _ c.resume_code-code.ensures c.if-code-ne0.
 
 pub overflow_add-t : goal.overflow_add-t
 overflow_add-t c =
-    let x = c in omega (arith, resume_below _ _ _ x.resume_code-code.ensures x.if-code-ne0.false)
+    omega (arith, resume_below _ _ _ c.resume_code-code.ensures c.if-code-ne0.false)
 
 pub returns : goal.returns
 returns c M =
-    let x = c in
-    let y = x in
-    let z = y in
-    let u = z in
-    resume_is _ M _ _ _ u.resume_code-code.ensures u.if-code-ne0.false z.saved_regs-regs.ensures y.store_words.ensures x.set_running.ensures
+    resume_is _ M _ _ _ c.resume_code-code.ensures c.if-code-ne0.false c.saved_regs-regs.ensures c.store_words.ensures c.set_running.ensures

@@ -1,0 +1,7 @@
+use mathlib.Core.Path.{refl}
+use Rattle.batch.proofs.Turns.{part_turned}
+use Rattle.batch.proofs.list.turn.Goals as goal
+
+pub returns : goal.returns
+returns c =
+    part_turned _ _ _ _ _ _ _ _ refl refl c.obey-a.ensures c.write_answer.ensures
