@@ -1,24 +1,24 @@
 -- The words of a block that was written; a block that was written is good; and a good block is one that could have been written. Assumes
 -- nothing.
-use Prim.Native.Nat.{ℕ, zero, suc, ◌+◌, ◌-◌, ◌*◌, ◌/◌, ◌%◌, ◌^◌, ◌≤◌, ◌<◌, min}
+use Prim.Native.Nat.{ℕ, zero, suc, ◌+◌, ◌-◌, ◌*◌, ◌%◌, ◌^◌, ◌≤◌, ◌<◌}
 use mathlib.Core.Path.{◌≡◌, refl, sym, ap, ap₂, ◌∙◌}
 use mathlib.Core.Logic.{◌⊎◌, inl, inr}
-use mathlib.Core.List.{List, [], ◌∷◌, ◌++◌, append-nil}
+use mathlib.Core.List.{List, [], ◌∷◌, ◌++◌}
 use native.Mathlib.Omega.{arith}
 use native.Mathlib.Nat.{mod-eq_of_lt}
-use lib.ListN.{length, get_or, take, drop, replicate, length-append, length-take, length-drop, length-replicate, get_or-append, get_or-eq_default}
-use lib.Seq.{get_or-append-add, get_or-drop, get_or-take, take_at, take_all, take-add, length-take-le, ext_get_or}
+use lib.ListN.{length, get_or, take, drop, replicate, length-append, get_or-append, get_or-eq_default}
+use lib.Seq.{get_or-append-add, get_or-drop, get_or-take, take_at, take_all, ext_get_or}
 use Rattle.words.specs.Words.{list_below}
-use Rattle.words.specs.Bytes.{AreWords, AreBytes, little_endian, bytes_of, word_at}
+use Rattle.words.specs.Bytes.{AreBytes, little_endian, word_at}
 use Rattle.words.proofs.Cases.{lt_or_ge}
 use Rattle.words.proofs.Endian.{length-little_endian, little_endian_append, bytes_back, word_at_lem, word_within, word_past, small_append, small_bytes}
 use Rattle.words.proofs.Lists.{zeros_at, length-list_below, list_below_at}
 use Rattle.crc32.specs.Crc32.{crc32}
 use Rattle.crc32.proofs.Laws.{crc32_word}
 use Rattle.machine.specs.declared.Machine.{Machine}
-use Rattle.machine.specs.Machine.{Fits, Lent}
-use Rattle.image.specs.Image.{ledger_words, secure_words, image_words, total, total_word, image_of, payload, body, sealed, block_of}
-use Rattle.image.specs.Reader.{Good, payload_of}
+use Rattle.machine.specs.Machine.{Lent}
+use Rattle.image.specs.Image.{image_words, total, total_word, image_of, payload, body, sealed, block_of}
+use Rattle.image.specs.Reader.{Good}
 use Rattle.image.proofs.Inside.{total_fits, total_word_fits}
 use Rattle.image.proofs.Payload.{length-payload}
 use Rattle.image.proofs.Placed.{length_image_of}

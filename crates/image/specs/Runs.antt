@@ -1,5 +1,5 @@
 -- The runs of a payload, as the code goes through them: words of the ledger, then of the secure frames, then the fill. Assumes nothing.
-use Rattle.std.specs.Prelude.{ℕ, ◌+◌, ◌-◌, ◌*◌, min, List, length}
+use Rattle.std.specs.Prelude.{ℕ, ◌-◌, ◌*◌, min, List, length}
 use Rattle.words.specs.Words.{paste}
 use Rattle.words.specs.Bytes.{word_bytes, little_endian}
 use Rattle.machine.specs.declared.Machine.{Machine}
