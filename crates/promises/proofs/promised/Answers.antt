@@ -31,10 +31,9 @@ use Rattle.promises.proofs.Images.{images_are_settled, images_eighteen_exactly_w
 use Rattle.promises.proofs.Maps.{maps_of_any_size, map_of_the_ledger}
 use Rattle.promises.proofs.Older.{old_images_are_refused, old_ledgers_are_refused}
 use Rattle.promises.proofs.Restored.{image_yes, first_bad_block, image_round_trip, acceptance_reads_secure_alone, restored_holds}
-use Rattle.promises.proofs.promised.Statement.{statement}
-use Rattle.promises.proofs.promised.Tie as tie
+use Rattle.promises.proofs.promised.Goals as goal
 
-returns : tie.Need-returns
+pub returns : goal.returns
 returns c =
     record {
       refused_moves_nothing = refused_moves_nothing;
@@ -128,6 +127,3 @@ returns c =
       old_images_are_refused = old_images_are_refused;
       old_ledgers_are_refused = old_ledgers_are_refused;
     }
-
-pub promised_spec : {M : Type 1} → statement M
-promised_spec = tie.close (tie.spec returns)
