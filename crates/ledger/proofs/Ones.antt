@@ -8,7 +8,7 @@ use Rattle.words.proofs.Maps.{ones_on, map_facts}
 use Rattle.machine.specs.Machine.{map_start, map_words}
 use Rattle.ledger.specs.Ledger.{header, map_bit}
 
--- its bits are map_bit L: bitOf (map_at L) p unfolds to what map_bit L p does
+-- its bits are map_bit L: bit_of (map_at L) p unfolds to what map_bit L p does
 abbrev pub map_at : List ℕ → ℕ → ℕ
 map_at L j = header L (map_start + j)
 
