@@ -48,8 +48,8 @@
 
 #define MONITOR_VERSION_MAJOR 0
 #define MONITOR_VERSION_MINOR 5
-#define MONITOR_VERSION_PATCH 1
-#define MONITOR_VERSION "0.5.1"
+#define MONITOR_VERSION_PATCH 0
+#define MONITOR_VERSION "0.5.0"
 
 #ifdef __cplusplus
 extern "C" {
@@ -118,9 +118,7 @@ enum monitor_call {
     MONITOR_MAP_DATA = 36,        /* own spare page, mapping word */
     MONITOR_UNMAP_DATA = 37,      /* own data page */
     MONITOR_EXIT = 38,            /* value */
-    /* asked by the host while a thread runs, for the hardware. A load or store ends the run as a fault for the first of these that holds:
-       misaligned (the address is no multiple of 4); too high (2^30 or more); no table (the first-level slot is empty); empty slot; of a
-       store, no write right. The answer is MONITOR_FAULTED and zeros whichever it is: the reason is seen by nobody outside */
+    /* asked by the host while a thread runs, for the hardware */
     MONITOR_INTERRUPT = 39,       /* r0-r15, flags */
     MONITOR_FAULT = 40,           /* */
     MONITOR_LOAD = 41,            /* address */
@@ -159,7 +157,7 @@ enum monitor_code {
     MONITOR_NOT_ACCEPTED = 26,    /* every block is good, and acceptance says no */
     /* outcomes: the run has ended */
     MONITOR_INTERRUPTED = 32,     /* the thread is suspended */
-    MONITOR_FAULTED = 33          /* of 41 and 42 too, whatever the reason */
+    MONITOR_FAULTED = 33
 };
 
 /* Boot: a fresh ledger with all pages free and this key of 8 words; secure frames zero, other frames unchanged. Nothing is asked of the

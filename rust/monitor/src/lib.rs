@@ -43,9 +43,7 @@
 //!
 //! - [`Monitor`] keeps a machine's numbers with its memory and ledger, owned
 //!   or borrowed, and hands them to the services.
-//! - [`Call`] and [`Answer`] are the table of calls; [`Refusal`] is why a call
-//!   is refused. Why a load or a store faulted ([`Call::Load`] and [`Call::Store`] have
-//!   the reasons in order) no answer says: it is [`Answer::Faulted`], 33 and zeros.
+//! - [`Call`] and [`Answer`] are the table of calls; [`Refusal`] the reasons.
 //! - [`Monitor::image`] gives the blocks of a saved image, [`Restore`] takes them;
 //!   [`BadImage`] is why an image is refused.
 //! - [`Memory`], [`Ledger`], [`Page`] and [`Slot`] read the lent words.

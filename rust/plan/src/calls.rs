@@ -8,12 +8,6 @@ use types::{Answer, BadImage, Call, Refusal, Row, Unfit};
 /// The first call while a thread runs; those before it are the system's.
 const OF_RUN: u32 = 32;
 
-/// What ends a load or a store, below 33.
-const REASONS: &str = "     \
-     Load and Store: for the first that holds of misaligned, too high, no table,
-     empty slot and, of Store alone, no write right; the answer is 33 alone
-";
-
 /// The whole table, with the words of each code.
 pub fn calls() -> String {
     let [first, second] = Refusal::FIRST.map(Refusal::code);
@@ -76,7 +70,6 @@ fn codes() -> String {
         writeln!(text, "{:3}  {answer}: {}", answer.code(), given_by(answer.code()))
             .expect("a string");
     }
-    text += REASONS;
     text += "\nOf a whole service, never of a call; the last two of an image that is read:\n\n";
     for (code, words) in [
         (UNFIT, Unfit::IN_WORDS),

@@ -45,8 +45,6 @@ fn every_call_in_its_group_and_every_code() {
     assert_eq!(shown.matches("19 and then for 15").count(), 1);
     assert!(shown.contains(" 32  interrupted, the thread is suspended: Interrupt\n"));
     assert!(shown.contains(" 33  fault, the run has ended: Fault, Load, Store\n"));
-    let first = "for the first that holds of misaligned, too high, no table,\n     empty slot and";
-    assert!(shown.contains(first), "{shown}");
     assert!(shown.contains("  0  done: every call but Interrupt, Fault\n"));
     assert!(shown.ends_with(" 25  a bad block\n 26  acceptance says no\n"));
 }

@@ -5,7 +5,7 @@
 //! - [`run`] prints answers, [`measure`] what spaces measure,
 //!   [`shift`] the worked shift.
 //! - [`picture`] and [`svg`] draw the ledger, that of a large box folded.
-//! - [`why`] says why a state is not accepted, [`reasons`] why an access faulted.
+//! - [`why`] says why a state is not accepted.
 //! - [`image`] saves a box and restores it, [`mod@write`] writes whole files.
 
 mod fold;
@@ -13,7 +13,6 @@ pub mod image;
 pub mod measure;
 pub mod picture;
 pub mod player;
-pub mod reasons;
 pub mod run;
 pub mod shift;
 pub mod svg;

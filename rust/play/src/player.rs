@@ -2,13 +2,12 @@
 //! after each. Says what is worth a note, and where an answer is not as the
 //! plan expects it.
 
-use crate::{fresh, reasons};
+use crate::fresh;
 use monitor::layout::{MOST_CALLS, RECORD_WORDS};
 use monitor::{Answer, Call, Monitor, Record, Refusal};
 use plan::options::Fresh;
 use plan::stop::{say, Stop};
 use plan::text::{Item, Text};
-use second::Reason;
 
 /// A call of a plan with its answer.
 pub struct Played {
@@ -20,8 +19,6 @@ pub struct Played {
     pub call: Option<Call>,
     /// Its answer.
     pub answer: Answer,
-    /// Why it faulted, as the bench sees it: of a load or store, where it is asked.
-    pub reason: Option<Reason>,
 }
 
 impl Played {
@@ -32,8 +29,7 @@ impl Played {
             Some(call) => Answer::decode(call, answer),
             None => (stray.encode() == *answer).then_some(stray),
         };
-        let answer = read.expect("an answer of the call's row");
-        Played { row, item, call, answer, reason: None }
+        Played { row, item, call, answer: read.expect("an answer of the call's row") }
     }
 
     /// The answer in words, with values that the words leave out.
@@ -64,7 +60,6 @@ fn list(words: &[u32]) -> String {
 pub struct Player<'p> {
     text: &'p Text,
     bench: Monitor,
-    reasons: bool,
     met: bool,
 }
 
@@ -77,12 +72,7 @@ impl<'p> Player<'p> {
 
     /// The plan on this box.
     pub fn on(text: &'p Text, bench: Monitor) -> Player<'p> {
-        Player { text, bench, reasons: false, met: true }
-    }
-
-    /// The same, which asks why loads and stores fault.
-    pub fn with_reasons(self) -> Player<'p> {
-        Player { reasons: true, ..self }
+        Player { text, bench, met: true }
     }
 
     /// The box.
@@ -125,11 +115,7 @@ impl<'p> Player<'p> {
             for (_, item) in &batch {
                 item.note().inspect(|note| say(&format!("{name}:{}: {note}", item.place)));
             }
-            let was = self.reasons.then(|| reasons::before(&self.bench, &batch)).flatten();
-            let mut played = answered(&mut self.bench, batch)?;
-            if let Some(was) = was {
-                reasons::name(was, &mut played)?;
-            }
+            let played = answered(&mut self.bench, batch)?;
             each(&played, &self.bench)?;
             for played in &played {
                 if let Some(what) = played.differs() {

@@ -28,8 +28,7 @@ pub fn run(
     let mut player = match &asked.load {
         Some(file) => Player::on(text, image::restored(file, fresh.machine, &images.loaded)?),
         None => Player::new(text, fresh)?,
-    }
-    .with_reasons();
+    };
     if asked.form != Form::Json {
         out.write_all(table::head().as_bytes())?;
     }

@@ -2,7 +2,6 @@
 
 use crate::player::Played;
 use crate::COLUMNS;
-use std::fmt::Display;
 
 /// Columns of a call.
 const CALL: usize = 28;
@@ -18,13 +17,11 @@ pub fn head() -> String {
     format!("{:>ROW$}  {:CALL$}  code  answer\n", "row", "call")
 }
 
-/// A row of the table: a line, or more where the call or the answer is long. Why an
-/// access faulted stands below as an aside: the answer does not say it.
+/// A row of the table: a line, or more where the call or the answer is long.
 pub fn row(played: &Played) -> String {
     let number = format!("{:ROW$}", played.row);
     let calls = wrapped(&played.item.to_string(), CALL);
-    let mut answers = wrapped(&played.in_words(), COLUMNS - BETWEEN - number.len());
-    answers.extend(played.reason.map(|reason| format!("{INDENT}(the bench sees: {reason})")));
+    let answers = wrapped(&played.in_words(), COLUMNS - BETWEEN - number.len());
     let mut text = String::new();
     for line in 0..calls.len().max(answers.len()) {
         let part = |of: &[String]| of.get(line).cloned().unwrap_or_default();
@@ -57,21 +54,15 @@ pub(crate) fn wrapped(text: &str, columns: usize) -> Vec<String> {
 
 /// A line of JSON.
 pub fn json(played: &Played) -> String {
-    let Played { row, item, answer, reason, .. } = played;
-    let name = text(item.name());
-    let reason = text(reason.as_ref());
+    let Played { row, item, answer, .. } = played;
+    let name = item.name().map_or("null".into(), |name| format!("\"{name}\""));
     let (call, line, arguments) = (item.record()[0], item.place.line, list(&item.words()[1..]));
     let (code, values) = (answer.code(), list(&answer.values()));
     format!(
         "{{\"row\":{row},\"line\":{line},\"call\":{call},\"name\":{name},\
          \"arguments\":{arguments},\"code\":{code},\"answer\":\"{answer}\",\
-         \"reason\":{reason},\"values\":{values}}}\n"
+         \"values\":{values}}}\n"
     )
-}
-
-/// A text that needs no escapes, or null.
-fn text(of: Option<impl Display>) -> String {
-    of.map_or("null".into(), |text| format!("\"{text}\""))
 }
 
 fn list(words: &[u32]) -> String {

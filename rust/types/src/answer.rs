@@ -53,8 +53,7 @@ pub enum Answer {
     Loaded(u32),
     /// 32: the run has ended, the thread is suspended.
     Interrupted,
-    /// 33: the run has ended as a fault. Of Load and Store it does not say for which
-    /// reason.
+    /// 33: the run has ended as a fault.
     Faulted,
 }
 

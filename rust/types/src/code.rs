@@ -10,5 +10,5 @@ pub const BAD_BLOCK: u32 = 25;
 pub const NOT_ACCEPTED: u32 = 26;
 /// The run has ended, the thread is suspended.
 pub const INTERRUPTED: u32 = 32;
-/// The run has ended as a fault; for calls 41 and 42 whatever the reason.
+/// The run has ended as a fault.
 pub const FAULTED: u32 = 33;

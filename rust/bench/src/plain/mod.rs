@@ -54,16 +54,6 @@ const MAC: Range<usize> = MEASUREMENT.end..MEASUREMENT.end + HASH_WORDS;
 /// Done, with the values in the answer from word 1 on, or the code.
 type Outcome = Result<(), Code>;
 
-/// Why an access fails, in the order in which it is asked. The library names it
-/// inside, so the twins do; the answer is 33 alone.
-enum Reason {
-    Misaligned,
-    TooHigh,
-    NoTable,
-    EmptySlot,
-    NoWrite,
-}
-
 struct Twin<'a, R> {
     machine: Machine,
     memory: &'a mut [u32],
@@ -313,26 +303,16 @@ impl<R: Reading> Twin<'_, R> {
         Ok(())
     }
 
-    /// Where the word at an address stands, or why it may not be touched so. Every
-    /// slot in use has read: a load never names the last reason.
-    fn translate(&mut self, address: u32, right: u32) -> Result<usize, Reason> {
-        if !address.is_multiple_of(WORD_BYTES) {
-            return Err(Reason::Misaligned);
-        }
-        if address >= ADDRESSES {
-            return Err(Reason::TooHigh);
+    /// Where the word at an address stands, if it may be touched so.
+    fn translate(&mut self, address: u32, right: u32) -> Option<usize> {
+        if !address.is_multiple_of(WORD_BYTES) || address >= ADDRESSES {
+            return None;
         }
         let owner = self.owner();
-        let Some(slot) = self.slot(owner, address) else { return Err(Reason::NoTable) };
+        let slot = self.slot(owner, address)?;
         let leaf = self.memory[slot];
-        if leaf == 0 {
-            return Err(Reason::EmptySlot);
-        }
-        if leaf & right == 0 {
-            return Err(Reason::NoWrite);
-        }
         let word = (address / WORD_BYTES) as usize % FRAME_WORDS;
-        Ok((leaf >> PAGE_SHIFT) as usize * FRAME_WORDS + word)
+        (leaf & right != 0).then_some((leaf >> PAGE_SHIFT) as usize * FRAME_WORDS + word)
     }
 
     fn fault(&mut self) -> Outcome {
@@ -341,13 +321,13 @@ impl<R: Reading> Twin<'_, R> {
     }
 
     fn load(&mut self, address: u32, answer: &mut [u32]) -> Outcome {
-        let Ok(place) = self.translate(address, READ) else { return self.fault() };
+        let Some(place) = self.translate(address, READ) else { return self.fault() };
         answer[1] = self.memory[place];
         Ok(())
     }
 
     fn store(&mut self, address: u32, word: u32) -> Outcome {
-        let Ok(place) = self.translate(address, WRITE) else { return self.fault() };
+        let Some(place) = self.translate(address, WRITE) else { return self.fault() };
         self.memory[place] = word;
         Ok(())
     }

@@ -146,14 +146,10 @@ pub enum Call {
     /// 40: the run ends as a fault.
     Fault = 40 "Fault"
         refused [] else [FAULTED],
-    /// 41: the word at an address. The run ends as a fault for the first of these
-    /// that holds: misaligned (no multiple of 4), too high (2^30 or more), no table
-    /// (the first-level slot is empty), empty slot. The answer is 33 alone whichever
-    /// it is.
+    /// 41: the word at an address.
     Load { address: u32 } = 41 "Load"
         refused [] else [DONE FAULTED],
-    /// 42: a word is written at an address. A fault as for [`Call::Load`], and last
-    /// where the slot has no write right.
+    /// 42: a word is written at an address.
     Store { address: u32, word: u32 } = 42 "Store"
         refused [] else [DONE FAULTED],
 }
