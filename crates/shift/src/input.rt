@@ -1,6 +1,8 @@
 // Reads calls from a text. Any text is taken: bytes that are no digits are passed over, words are kept to 32 bits,
 // and a call to 32 words.
-ghost use Rattle.std.specs.Prelude.{◌≤◌, length};
+ghost use Rattle.std.specs.Prelude.{◌≤◌, length, IfOk};
+
+use std::io;
 
 // The words of a record.
 pub const RECORD: usize = 32;
@@ -10,6 +12,21 @@ pub const RECORD: usize = 32;
 pub struct Row {
     pub words: [u32; RECORD],
     pub count: usize,
+}
+
+// Reads until the text is full or the input ends, and says how many bytes were read: they stand at the text's start.
+pub fn read_full(from: &mut impl io::Read, text: &mut [u8]) -> io::Result<usize>
+    ensures { IfOk result (λ n. n ≤ length text.new) }
+{
+    let mut done = 0;
+    while done < text.len() {
+        let n = from.read(&mut text[done..])?;
+        if n == 0 {
+            break;
+        }
+        done += n;
+    }
+    Ok(done)
 }
 
 // Where the first such byte stands from here on, or the text's end.

@@ -2,6 +2,7 @@
 // The text: the words of a call, call number first, in decimal with one blank between, and a semicolon after the last.
 // A line: its number, the call's name and the words after its number, ` -> `, the answer's code and meaning,
 // and, where the code is 0 and the call has values, a colon and the values.
+// A read or a write that fails ends the program with its error.
 
 #![tactic(auto)]
 
@@ -9,6 +10,8 @@ mod input;
 mod output;
 
 ghost use Rattle.std.specs.Prelude.{◌≤◌, length};
+
+use std::io;
 
 // Box A: 16 frames, secure pages 0-7 in frames 6-13, the monitor in frames 0-1.
 const FRAMES: u32 = 16;
@@ -26,6 +29,9 @@ const KEY: [u32; 8] = [1, 2, 3, 4, 5, 6, 7, 8];
 const MEMORY_WORDS: usize = 16384;
 
 const LEDGER_WORDS: usize = 320;
+
+// The bytes of the text that are read. What stands after them is left unread.
+const TEXT_BYTES: usize = 65536;
 
 // Word i of frame f holds 1024f + i: its own place.
 fn fill(memory: &mut [u32])
@@ -53,44 +59,49 @@ fn batch(memory: &mut [u32], ledger: &mut [u32], call: &[u32], answer: &mut [u32
     )
 }
 
-fn obey(number: usize, row: input::Row, memory: &mut [u32], ledger: &mut [u32])
+fn obey(
+    out: &impl Print,
+    number: usize,
+    row: input::Row,
+    memory: &mut [u32],
+    ledger: &mut [u32],
+) -> io::Result<()>
     requires { row.count ≤ 32 }
 {
     let words = row.words;
-    output::call(number, &words, row.count);
+    output::call(out, number, &words, row.count)?;
     let mut answer = [0u32; input::RECORD];
     if batch(memory, ledger, &words, &mut answer) != 0 {
-        output::say(b" -> batch refused\n");
-        return;
+        return output::say(out, b" -> batch refused\n");
     }
-    output::answer(words[0], &answer);
+    output::answer(out, words[0], &answer)
 }
 
 // The calls of a text, in order. What stands after the last semicolon is no call.
-fn play(text: &[u8], memory: &mut [u32], ledger: &mut [u32]) {
+fn play(out: &impl Print, text: &[u8], memory: &mut [u32], ledger: &mut [u32]) -> io::Result<()> {
     let n = text.len();
     let mut number = 0;
     let mut at = 0;
     while at < n {
         let end = input::until(text, at, b';');
         if end == n {
-            return;
+            return Ok(());
         }
         number += 1;
-        obey(number, input::read(&text[at..end]), memory, ledger);
+        obey(out, number, input::read(&text[at..end]), memory, ledger)?;
         at = end + 1;
     }
+    Ok(())
 }
 
-fn main() {
+fn main(rt: HostRuntime) -> io::Result<()> {
     let mut memory = [0u32; MEMORY_WORDS];
     fill(&mut memory);
     let mut ledger = [0u32; LEDGER_WORDS];
     if boot(&mut memory, &mut ledger) != 0 {
-        output::say(b"boot refused\n");
-        return;
+        return output::say(&rt, b"boot refused\n");
     }
-    let mut text = io::large_buffer();
-    let n = io::read_full(0, &mut text);
-    play(&text[..n], &mut memory, &mut ledger);
+    let mut text = [0u8; TEXT_BYTES];
+    let n = input::read_full(&mut rt.stdin(), &mut text)?;
+    play(&rt, &text[..n], &mut memory, &mut ledger)
 }
