@@ -1,4 +1,4 @@
-// The CRC-32 for C or Rust to call.
+// The CRC-32 for a host, as the crate crc32_host_c exports it.
 
 #![tactic(auto)]
 
@@ -6,8 +6,7 @@ ghost use Rattle.std.specs.Prelude.{◌≡◌};
 ghost use Rattle.crc32.specs.Crc32.{crc32};
 
 // The CRC-32 of `bytes`.
-#[unsafe(no_mangle)]
-pub extern "C" fn crc32_of(bytes: &[u8]) -> u32
+pub fn crc32_of(bytes: &[u8]) -> u32
     ensures { result ≡ crc32 bytes.now }
 {
     crc32::crc32(bytes)

@@ -1,5 +1,5 @@
-// The services for a host, exported for C and Rust: machine numbers as words, what is lent as slices. They ask nothing of what is lent:
-// what does not fit gets 18, or a no.
+// The services for a host: machine numbers as words, what is lent as slices. They ask nothing of what is lent: what does not fit gets 18,
+// or a no. The crate monitor_c exports them.
 
 #![tactic(auto)]
 
@@ -12,8 +12,7 @@ ghost use Rattle.image.specs.Service.{BlocksCounted, BlockWritten, BlockRead, Re
 use accept::accepts;
 use machine::Machine;
 
-#[unsafe(no_mangle)]
-pub extern "C" fn monitor_boot(
+pub fn monitor_boot(
     frames: u32,
     secure: u32,
     pages: u32,
@@ -39,8 +38,7 @@ pub extern "C" fn monitor_boot(
     )
 }
 
-#[unsafe(no_mangle)]
-pub extern "C" fn monitor_accepts(
+pub fn monitor_accepts(
     frames: u32,
     secure: u32,
     pages: u32,
@@ -64,8 +62,7 @@ pub extern "C" fn monitor_accepts(
     )
 }
 
-#[unsafe(no_mangle)]
-pub extern "C" fn monitor_batch(
+pub fn monitor_batch(
     frames: u32,
     secure: u32,
     pages: u32,
@@ -93,8 +90,7 @@ pub extern "C" fn monitor_batch(
     )
 }
 
-#[unsafe(no_mangle)]
-pub extern "C" fn monitor_image_blocks(
+pub fn monitor_image_blocks(
     frames: u32,
     secure: u32,
     pages: u32,
@@ -112,8 +108,7 @@ pub extern "C" fn monitor_image_blocks(
     })
 }
 
-#[unsafe(no_mangle)]
-pub extern "C" fn monitor_image_write(
+pub fn monitor_image_write(
     frames: u32,
     secure: u32,
     pages: u32,
@@ -143,8 +138,7 @@ pub extern "C" fn monitor_image_write(
     )
 }
 
-#[unsafe(no_mangle)]
-pub extern "C" fn monitor_image_read(
+pub fn monitor_image_read(
     frames: u32,
     secure: u32,
     pages: u32,
@@ -172,8 +166,7 @@ pub extern "C" fn monitor_image_read(
     )
 }
 
-#[unsafe(no_mangle)]
-pub extern "C" fn monitor_image_end(
+pub fn monitor_image_end(
     frames: u32,
     secure: u32,
     pages: u32,

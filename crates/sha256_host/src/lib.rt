@@ -1,4 +1,4 @@
-// SHA-256 and HMAC for C or Rust to call. Each answers false, and changes nothing, where a length does not fit.
+// SHA-256 and HMAC for a host, as the crate sha256_host_c exports them. Each answers false, and changes nothing, where a length does not fit.
 
 #![tactic(auto)]
 
@@ -30,8 +30,7 @@ fn store8(s: &mut [u32], r: [u32; HASH])
 }
 
 // The hash value `state`, of 8 words, takes in `words`, whole blocks.
-#[unsafe(no_mangle)]
-pub extern "C" fn sha256_absorb(state: &mut [u32], words: &[u32]) -> bool
+pub fn sha256_absorb(state: &mut [u32], words: &[u32]) -> bool
     ensures value { result ≡ (eqb (length state.old) 8 && eqb (length words.now % 16) 0) }
     ensures state_after { state.new ≡ cond result (absorb state.old words.now) state.old }
 {
@@ -48,8 +47,7 @@ pub extern "C" fn sha256_absorb(state: &mut [u32], words: &[u32]) -> bool
 }
 
 // The digest of `words` goes to `out`, of 8 words.
-#[unsafe(no_mangle)]
-pub extern "C" fn sha256_digest(words: &[u32], out: &mut [u32]) -> bool
+pub fn sha256_digest(words: &[u32], out: &mut [u32]) -> bool
     ensures value { result ≡ eqb (length out.old) 8 }
     ensures out_after { out.new ≡ cond result (sha256 words.now) out.old }
 {
@@ -62,8 +60,7 @@ pub extern "C" fn sha256_digest(words: &[u32], out: &mut [u32]) -> bool
 }
 
 // The HMAC of `text` by `key`, of at most 16 words, goes to `out`, of 8 words.
-#[unsafe(no_mangle)]
-pub extern "C" fn sha256_hmac(key: &[u32], text: &[u32], out: &mut [u32]) -> bool
+pub fn sha256_hmac(key: &[u32], text: &[u32], out: &mut [u32]) -> bool
     ensures value { result ≡ (leb (length key.now) 16 && eqb (length out.old) 8) }
     ensures out_after { out.new ≡ cond result (hmac key.now text.now) out.old }
 {
