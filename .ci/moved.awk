@@ -40,7 +40,7 @@ function give_up(what) {
 # What is read of a file, by its path below crates/.
 function reading(path) {
     if (path ~ /^[^\/]+\/specs\/.*\.antt$/) return "definition"
-    if (path ~ /^[^\/]+\/proofs\/(.*\/)?Proof\.antt$/) return "proof"
+    if (path ~ /^[^\/]+\/proofs\/(.*\/)?(Answers|Invariants|Proof)\.antt$/) return "proof"
     if (path ~ /^[^\/]+\/proofs\/.*\.antt$/) return "law"
     if (path ~ /^[^\/]+\/src\/.*\.rt$/) return "code"
     if (path ~ /^[^\/]+\/must-fail\/.*\.edit$/) return "edit"
@@ -80,7 +80,7 @@ function end_file(    name, which) {
     if (reads == "edit" || reads == "proof") {
         name = place
         sub(/::$/, "", name)
-        if (reads == "proof") sub(/::Proof$/, "", name)
+        if (reads == "proof") sub(/::(Answers|Proof)$/, "", name)
         add(reads, crate "::" name, last(name), whole)
     } else if (reads == "code") {
         if (state != "" || owner != "") give_up("it ends in the middle of something")
@@ -92,13 +92,18 @@ function end_file(    name, which) {
     reads = ""
 }
 
-function last(name) { sub(/.*::/, "", name); return name }
+# Of what loops and measures keep the name has the function's before it.
+function last(name,    rest) { rest = sub(/::Invariants$/, "", name) ? "::Invariants" : ""; sub(/.*::/, "", name); return name rest }
 
 # ---- what was read
 
 # add(KIND, NAME, SHORT, TEXT): SHORT is the name without its crate and file. What has a name twice in one file counts once.
+# A function's proof is the same in Proof.antt and in Answers.antt.
 function add(kind, name, short, text,    key) {
-    key = kind SUBSEP path SUBSEP name
+    key = path
+    if (kind == "proof") sub(/Answers\.antt$/, "Proof.antt", key)
+    key = kind SUBSEP key SUBSEP name
+    if (key in kind_of && path_of[key] != path) also_at[key] = path
     if (!(key in kind_of)) {
         keys[++all] = key
         kind_of[key] = kind
@@ -183,9 +188,12 @@ function declares(rest) {
 # Does a line go on with the item? Its own name is in it, or what an operator's has between the places; or a bracket is closed.
 function clause(words,    parts, count) {
     if (words ~ /^(unfolding |[])}])/) return 1
-    for (count = split(item, parts, "_"); count; count--) if (parts[count] != "" && !index(words, parts[count])) return 0
+    for (count = split(item, parts, place_in(item)); count; count--) if (parts[count] != "" && !index(words, parts[count])) return 0
     return words !~ /^(pub |use |mod |open |infix[lr]? |module |mutual$)/
 }
+
+# How an operator's name marks a place.
+function place_in(name) { return index(name, "◌") ? "◌" : name ~ /^_|_$/ ? "_" : SUBSEP }
 
 function end_item() {
     if (item != "") add(reads, crate "::" item, item, context[depth] "\n" text)
@@ -293,9 +301,11 @@ function shown(key) {
     return crate_of[key] "::" place_of(path_of[key]) short_of[key]
 }
 
+function touch(key) { touched[path_of[key]] = 1; if (key in also_at) touched[also_at[key]] = 1 }
+
 function fact(what, side, key) {
     print what "\t" kind_on(side, key) "\t" shown(key)
-    touched[path_of[key]] = 1
+    touch(key)
 }
 
 # Of what is gone with this text the first that is left, of the same crate where there is one.
@@ -311,7 +321,7 @@ function partner(key, text,    at, found) {
 # The file, or of a proof or an edit that keeps its name the folder.
 function where(key, other,    path) {
     path = path_of[key]
-    if (short_of[key] == short_of[other]) sub(/(\/[^\/]+\/Proof\.antt|\/[^\/]+\.edit)$/, "", path)
+    if (short_of[key] == short_of[other]) sub(/(\/[^\/]+\/(Answers|Invariants|Proof)\.antt|\/[^\/]+\.edit)$/, "", path)
     return "`" path "`"
 }
 
@@ -319,7 +329,8 @@ function moved(key, text,    from, was, is, at) {
     at = partner(key, text)
     from = gone[text, at]
     delete gone[text, at]
-    touched[path_of[from]] = touched[path_of[key]] = 1
+    touch(from)
+    touch(key)
     was = where(from, key)
     is = where(key, from)
     # a definition has become a promise where it stands, or the other way round
