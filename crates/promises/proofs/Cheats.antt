@@ -160,7 +160,7 @@ nobody_moves_nothing S sat always =
 
 pub nobody_plays_all_at_once : NobodyPlaysAllAtOnce
 nobody_plays_all_at_once S sat always =
-    let same = (caught PlaysAllAtOnce S sat always 1 (omega arith) (count ++ newly) refl).from-the-end runs.count_still.0 runs.count_still.1 in
+    let same = (caught PlaysAllAtOnce S sat always 1 (omega arith) (count ++ newly) refl).from_the_end runs.count_still.0 runs.count_still.1 in
     omega (arith, ap (λ (l : List ℕ). get_or l 1 0) same, runs.count_before, runs.count_after)
 
 pub nobody_invents_counts : NobodyInventsCounts

@@ -150,8 +150,8 @@ module _ (any : Any) where
         owns_itself = (no_by two refl, good.in_neighbours.if_building);
         states = (no_by one refl, good.in_alone.if_final);
         space_words = (no_by one refl, no_by one refl, good.in_alone.if_building);
-        entry-multiple = (no_by one refl, no_by one refl, no_by one refl, yes_by one refl, yes_by one refl);
-        entry-low = (no_by one refl, no_by one refl, yes_by one refl);
+        entry_multiple = (no_by one refl, no_by one refl, no_by one refl, yes_by one refl, yes_by one refl);
+        entry_low = (no_by one refl, no_by one refl, yes_by one refl);
         suspended = (no_by one refl, good.in_suspended);
         flags = (no_by one refl, no_by one refl, yes_by one refl);
         thread_words = (no_by one refl, no_by one refl, good.in_suspended);
@@ -191,19 +191,19 @@ module _ (any : Any) where
   unfolding sum_below padded list_below bit bit_on insecure well_formed legal_entry header rec put puts put_header anew vacate lose map_on tally free_flag map_word page records ledger_of ledger_of_two
   link_demands =
       record {
-        names-first = (no_going one refl refl, no_going two refl refl, no_going (gone one 1 refl) refl refl, good.in_alone);
+        names_first = (no_going one refl refl, no_going two refl refl, no_going (gone one 1 refl) refl refl, good.in_alone);
         only_first = (no_going one refl refl, good.in_alone);
         table_named = (no_going (stored one 7 0 0 refl) refl refl, good.in_alone);
         one_table = (no_going one refl refl, good.in_alone);
         of_index = (no_going (stored one 7 1 3 refl) refl refl, good.in_alone);
         own_table = (no_going (stored two 7 0 6 refl) refl refl, good.in_neighbours);
-        other-frame = (
+        other_frame = (
           no_going (stored one 8 2 (slot_word 1 3) refl) refl refl,
           no_going (stored one 8 2 (slot_word 11 3) refl) refl refl,
           no_going (stored one 8 2 (slot_word 16 3) refl) refl refl,
           good.in_alone,
         );
-        insecure-frame = (
+        insecure_frame = (
           yes_going (stored one 8 2 (slot_word 5 3) refl) refl refl,
           yes_going (stored one 8 2 (slot_word 14 3) refl) refl refl,
           yes_going (stored one 8 2 (slot_word 15 3) refl) refl refl,
@@ -239,7 +239,7 @@ module _ (any : Any) where
         words = (no_by one refl, no_by one refl, no_by one refl, no_by one refl, no_by one refl, no_by one refl, good.in_stopped);
         entry = (no_by one refl, no_by one refl, good.in_stopped);
         registers = (no_by one refl, good.in_stopped);
-        zero-memory = (
+        zero_memory = (
           no_by (stored one 6 0 1 refl) refl,
           no_by (stored one 10 0 1 refl) refl,
           no_by (stored one 11 0 1 refl) refl,
@@ -252,7 +252,7 @@ module _ (any : Any) where
   unfolding sum_below padded list_below bit bit_on insecure well_formed legal_entry header rec put puts put_header anew vacate lose map_on tally free_flag map_word page records ledger_of
   thread_demands =
       record {
-        every-entry = (no_by one refl, no_by one refl, no_by one refl, good.in_alone.if_final, good.in_running, good.in_suspended);
+        every_entry = (no_by one refl, no_by one refl, no_by one refl, good.in_alone.if_final, good.in_running, good.in_suspended);
         registers = (no_by one refl, no_by one refl, good.in_alone.if_final, good.in_suspended);
         no_flags = (no_by one refl, yes_by one refl);
         free_memory = (no_by (stored one 12 0 1 refl) refl, no_by (stored one 13 1023 1 refl) refl, good.in_alone.if_building);

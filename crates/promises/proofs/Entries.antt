@@ -52,7 +52,7 @@ stopped_by t = ⊎_elim (λ x. x.1) (λ x. absurd (x.0 t))
 asked : (b : Machine) (M L W : List ℕ) → AsksThread b L W → PG b L (arg W 2) (Not (Legal (arg W 3)) gives bad_entry else done) (code_of (obey b M L W))
 asked b M L W x =
     past (λ n. n x.state) (past (λ n. n x.is_space) (past (λ l. omega arith)
-    (past (λ n. n x.nobody) (past x.no_more_words (first_refusals.init-thread b M L W x.asks)))))
+    (past (λ n. n x.nobody) (past x.no_more_words (first_refusals.init_thread b M L W x.asks)))))
 
 free_asked : (b : Machine) (M L W : List ℕ) → AsksThread b L W → IsFree b L (arg W 2)
     → (Not (Legal (arg W 3)) gives bad_entry else done) (code_of (obey b M L W))

@@ -104,13 +104,13 @@ first_refusals =
     record {
       unknown = λ b M L W u. rw (no_row_has (arg W 0) calls all_known (not_known (arg W 0) u)) refl;
       get_phys_pages = λ b M L W. by_system b M L W 1 refl refl (ended 0);
-      init-addr-space =
+      init_addr_space =
           λ b M L W.
           by_system b M L W 2 refl refl
           (acts M L _
           (test_le b.pages (arg W 1) 0 then test_le b.pages (arg W 2) 0 then test_ne (type_of L (arg W 1)) free 1
           then test_ne (type_of L (arg W 2)) free 1 then test_eq (arg W 1) (arg W 2) 1));
-      init-thread =
+      init_thread =
           λ b M L W.
           by_system b M L W 3 refl refl
           (acts M L _ (building_first b L (arg W 1) then pg_first b L (arg W 2) then legal_first (arg W 3)));
@@ -118,7 +118,7 @@ first_refusals =
           λ b M L W.
           by_system b M L W 4 refl refl
           (acts M L _ (building_first b L (arg W 1) then pg_first b L (arg W 2) then index_first b M (first_of L (arg W 1)) (arg W 3)));
-      alloc-spare =
+      alloc_spare =
           λ b M L W.
           by_system b M L W 5 refl refl
           (acts M L _ (as_first b L (arg W 1) then test_eq (state_of L (arg W 1)) stopped 3 then pg_first b L (arg W 2)));
@@ -135,7 +135,7 @@ first_refusals =
           (building_first b L (arg W 1)
           then plain_first (arg W 2) (addr_first b M (first_of L (arg W 1)) (arg W 2) then shut_first b (arg W 3))));
       finalise = λ b M L W. by_system b M L W 8 refl refl (acts M L _ (building_first b L (arg W 1)));
-      enter-thread =
+      enter_thread =
           λ b M L W. by_system b M L W 9 refl refl (acts M L _ (thread_first b L (arg W 1) then test_ne (suspended_of L (arg W 1)) 0 10));
       resume = λ b M L W. by_system b M L W 10 refl refl (acts M L _ (thread_first b L (arg W 1) then test_eq (suspended_of L (arg W 1)) 0 11));
       stop = λ b M L W. by_system b M L W 11 refl refl (acts M L _ (as_first b L (arg W 1)));

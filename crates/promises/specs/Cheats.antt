@@ -65,7 +65,7 @@ NobodyMovesNothing = Never MovesNothing
 
 -- "one that plays the whole list at its first record": a first record that moves nothing is answered from the state in which the list ends
 pub record PlaysAllAtOnce (b : Machine) (M L W : List ℕ) (o : Left) : Type 0 where
-  pub from-the-end :
+  pub from_the_end :
       (obey b M L (take record_words W)).mem ≡ M → (obey b M L (take record_words W)).led ≡ L
       → take record_words o.answers ≡ padded (obey b o.mem o.led (take record_words W)).ans
 

@@ -174,10 +174,10 @@ module _ (any : Any) where
     -- "6-13 hash or measurement", then unnamed words
     pub space_words : No (in_record building_a 0 14 1) × No (in_record building_a 0 31 1) × Yes building_a
     -- "2 thread: 2 entry point". #103: not one that "isn't a multiple of 4 or is at or above 2^30" (nor need it be mapped)
-    pub entry-multiple :
+    pub entry_multiple :
         No (in_record building_a 4 entry_word 4097) × No (in_record building_a 4 entry_word 4098) × No (in_record building_a 4 entry_word 4099)
         × Yes (in_record building_a 4 entry_word 4100) × Yes (in_record building_a 4 entry_word 0)
-    pub entry-low :
+    pub entry_low :
         No (in_record building_a 4 entry_word (2 ^ 30)) × No (in_record building_a 4 entry_word (2 ^ 32 - 4))
         × Yes (in_record building_a 4 entry_word (2 ^ 30 - 4))
     -- "3 suspended 0/1"
@@ -229,7 +229,7 @@ module _ (any : Any) where
   -- ---- "Not stopped": of a space that is building, and of one that is final
   pub record LinkDemands : Type 0 where
     -- "word 2 names the only first-level page owned" (it names the spare, or the neighbour's, or the page is gone; the spare is a second one)
-    pub names-first :
+    pub names_first :
         NoGoing (λ s. in_record (alone s) 0 first_page_word 5) × NoGoing (λ s. in_record (neighbours s) 0 first_page_word 4)
         × NoGoing (λ s. without (alone s) 1) × YesGoing alone
     pub only_first : NoGoing (λ s. in_record (alone s) 5 type_word first_level) × YesGoing alone
@@ -240,10 +240,10 @@ module _ (any : Any) where
     pub of_index : NoGoing (λ s. in_frame (alone s) 7 1 3) × YesGoing alone
     pub own_table : NoGoing (λ s. in_frame (neighbours s) 7 0 6) × YesGoing neighbours
     -- "Each non-empty slot names an insecure frame" (1 is the monitor's, 11 the spare's, 16 is past the last; 5, 14 and 15 are insecure)
-    pub other-frame :
+    pub other_frame :
         NoGoing (λ s. in_frame (alone s) 8 2 (slot_word 1 3)) × NoGoing (λ s. in_frame (alone s) 8 2 (slot_word 11 3))
         × NoGoing (λ s. in_frame (alone s) 8 2 (slot_word 16 3)) × YesGoing alone
-    pub insecure-frame :
+    pub insecure_frame :
         YesGoing (λ s. in_frame (alone s) 8 2 (slot_word 5 3)) × YesGoing (λ s. in_frame (alone s) 8 2 (slot_word 14 3))
         × YesGoing (λ s. in_frame (alone s) 8 2 (slot_word 15 3))
     -- "or a data page of the same owner" (slot 1 of the one's table names the other's data page, at its address and with its rights)
@@ -286,13 +286,13 @@ module _ (any : Any) where
         × No (in_record stopped_a 4 21 1) × No (in_record stopped_a 5 2 1) × Yes stopped_a
     pub entry : No (in_record stopped_a 4 entry_word 4097) × No (in_record stopped_a 4 entry_word (2 ^ 30)) × Yes stopped_a
     pub registers : No (in_record stopped_a 4 registers_word 1) × Yes stopped_a
-    pub zero-memory :
+    pub zero_memory :
         No (in_frame stopped_a 6 0 1) × No (in_frame stopped_a 10 0 1) × No (in_frame stopped_a 11 0 1) × No (in_frame stopped_a 12 0 1) × Yes stopped_a
 
   -- ---- threads, memory, and who runs
   pub record ThreadDemands : Type 0 where
     -- #103: "every thread" (of a final space, one that runs, one that is suspended)
-    pub every-entry :
+    pub every_entry :
         No (in_record final_a 4 entry_word 4097) × No (in_record running_a 4 entry_word 4097) × No (in_record suspended_a 4 entry_word 4097) × Yes final_a
         × Yes running_a × Yes suspended_a
     -- "A thread not suspended has zero registers and flags." (r0, r15, flags; a suspended one may have any)

@@ -125,14 +125,14 @@ pub record FirstRefusals : Type 0 where
   -- "unknown number" 19
   pub unknown : (b : Machine) (M L W : List ℕ) → (arg W 0 < 1) ⊎ ((13 < arg W 0) × (arg W 0 < 32)) ⊎ (42 < arg W 0) → code_of (obey b M L W) ≡ bad_record
   pub get_phys_pages : Row 1 (λ b M L W. systems 0 L W done)
-  pub init-addr-space :
+  pub init_addr_space :
       Row 2
       (λ b M L W.
       systems 2 L W
       ((b.pages ≤ arg W 1) gives no_such_page else (b.pages ≤ arg W 2) gives no_such_page
       else Not (type_of L (arg W 1) ≡ free) gives not_free else Not (type_of L (arg W 2) ≡ free) gives not_free
       else (arg W 1 ≡ arg W 2) gives not_free else done))
-  pub init-thread :
+  pub init_thread :
       Row 3
       (λ b M L W.
       systems 3 L W (AS b L (arg W 1) (Building L (arg W 1) (PG b L (arg W 2) (Not (Legal (arg W 3)) gives bad_entry else done)))))
@@ -141,7 +141,7 @@ pub record FirstRefusals : Type 0 where
       (λ b M L W.
       systems 3 L W
       (AS b L (arg W 1) (Building L (arg W 1) (PG b L (arg W 2) (INDEX b M (first_of L (arg W 1)) (arg W 3) done)))))
-  pub alloc-spare :
+  pub alloc_spare :
       Row 5
       (λ b M L W.
       systems 2 L W (AS b L (arg W 1) ((state_of L (arg W 1) ≡ stopped) gives wrong_state else PG b L (arg W 2) done)))
@@ -160,7 +160,7 @@ pub record FirstRefusals : Type 0 where
       ((Not (Shaped (arg W 2)) ⊎ (arg W 2 / 4 % 2 ≡ 1)) gives ill_formed
       else ADDR b M (first_of L (arg W 1)) (arg W 2) (Shut b (arg W 3) gives not_insecure else done)))))
   pub finalise : Row 8 (λ b M L W. systems 1 L W (AS b L (arg W 1) (Building L (arg W 1) done)))
-  pub enter-thread :
+  pub enter_thread :
       Row 9 (λ b M L W. systems 4 L W (THREAD b L (arg W 1) (Not (suspended_of L (arg W 1) ≡ 0) gives is_suspended else done)))
   pub resume : Row 10 (λ b M L W. systems 1 L W (THREAD b L (arg W 1) ((suspended_of L (arg W 1) ≡ 0) gives not_suspended else done)))
   pub stop : Row 11 (λ b M L W. systems 1 L W (AS b L (arg W 1) done))
