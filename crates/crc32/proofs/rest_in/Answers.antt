@@ -6,8 +6,6 @@ use Rattle.crc32.specs.Crc32.{bytes_in}
 use Rattle.crc32.proofs.Laws.{next_byte}
 use Rattle.crc32.proofs.rest_in.Goals as goal
 
--- loop loop-k: t (unchanged), c (unchanged), bytes (unchanged), from (unchanged), state, k
-
 pub loop-k-init : goal.loop-k-init
 loop-k-init c = (omega arith, refl)
 

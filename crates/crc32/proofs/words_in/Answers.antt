@@ -8,8 +8,6 @@ use Rattle.crc32.specs.Crc32.{bits_in, bytes_in}
 use Rattle.crc32.proofs.Laws.{word_more}
 use Rattle.crc32.proofs.words_in.Goals as goal
 
--- loop loop-k: t (unchanged), c (unchanged), bytes (unchanged), count (unchanged), state, k
-
 pub loop-k-init : goal.loop-k-init
 unfolding bytes_in
 loop-k-init c = (omega arith, refl)

@@ -4,8 +4,6 @@ use Rattle.sha256.proofs.Laws.{blocks_more}
 use borrow.Author.Rules.{rules}
 use Rattle.sha256.proofs.absorb.Goals as goal
 
--- loop loop-b: words (unchanged), n (unchanged), s, b
-
 pub loop-b-init : goal.loop-b-init
 unfolding blocks
 loop-b-init c = (search rules, refl)

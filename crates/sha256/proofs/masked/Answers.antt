@@ -4,8 +4,6 @@ use Rattle.sha256.proofs.Lists.{over_none, over_more, over_all, masked_at, maske
 use borrow.Author.Rules.{rules}
 use Rattle.sha256.proofs.masked.Goals as goal
 
--- loop loop-i: pad (unchanged), k (unchanged), w, i
-
 pub loop-i-init : goal.loop-i-init
 loop-i-init c = (search rules, over_none _ _)
 

@@ -3,8 +3,6 @@ use Rattle.sha256.proofs.Lists.{over_none, over_more, over_zeros}
 use borrow.Author.Rules.{rules}
 use Rattle.sha256.proofs.with_zeros.Goals as goal
 
--- loop loop-i: words (unchanged), w, i
-
 pub loop-i-init : goal.loop-i-init
 loop-i-init c = (search rules, over_none _ _)
 

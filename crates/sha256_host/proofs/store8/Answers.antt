@@ -5,8 +5,6 @@ use Rattle.sha256.proofs.Lists.{over_none, over_more, over_all}
 use borrow.Author.Rules.{rules}
 use Rattle.sha256_host.proofs.store8.Goals as goal
 
--- loop loop-i: s, r (unchanged), i
-
 pub loop-i-init : goal.loop-i-init
 loop-i-init c = (search rules, search rules, over_none _ _)
 
