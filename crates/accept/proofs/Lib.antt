@@ -3,5 +3,4 @@ pub mod Stretches
 pub mod Sums
 pub mod Words
 pub mod FreeMap
-pub mod Owner
 pub mod Parts

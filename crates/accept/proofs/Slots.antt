@@ -1,27 +1,53 @@
 -- What a slot's value says, taken apart as the code takes it. Assumes nothing.
 use Prim.Native.Nat.{ℕ, ◌+◌, ◌-◌, ◌/◌, ◌%◌, ◌<◌}
 use mathlib.Core.Path.{◌≡◌, refl, subst}
+use mathlib.Core.Bool.{Bool, true, false}
+use mathlib.Core.List.{List}
 use mathlib.Core.Logic.{◌⊎◌, inl, inr, ⊎_elim}
+use native.Mathlib.Decide.{dec_lt, ℕ_discrete}
 use native.Mathlib.Omega.{arith}
+use lib.Dec.{ltb}
+use lib.ListN.{get_or}
+use borrow.Author.Tests.{lt-ltb, le-ltb}
+use Rattle.words.specs.Words.{Says}
+use Rattle.accept.proofs.Words.{Shows, says_by}
 use Rattle.machine.specs.declared.Machine.{Machine}
 use Rattle.machine.specs.Machine.{Insecure}
-use Rattle.mapping.specs.Mapping.{index_of, slot_of, rights_of}
-use Rattle.ledger.specs.Names.{second_level}
+use Rattle.mapping.specs.Mapping.{index_of}
 use Rattle.walk.specs.Walk.{slot_word}
-use Rattle.accept.specs.Accept.{Words, Is, SlotOk, SlotOk.empty, SlotOk.outside, SlotOk.inside}
-use Rattle.accept.specs.Checks.{Names, Inside, Reached}
+use Rattle.accept.specs.Accept.{Words, SlotOk, SlotOk.empty, SlotOk.outside, SlotOk.inside}
+use Rattle.accept.specs.Checks.{Names, Inside, Reached, SlotsPass}
 
--- ---- a first-level slot that is empty, and one that is not
+-- ---- what a test says of each slot that is in use, P where it says yes, says P of all, where it holds of an empty one
+module _ (P : ℕ → ℕ → Type 0) {post : ℕ → ℕ → Bool → Type 0} {ss : List ℕ} {q : Bool} (s : SlotsPass post ss q) {r : ℕ → ℕ} {n : ℕ} (shown : Shows ss r n)
+    (yes_is : (j v : ℕ) → post j v true → P j v) (no_is : (j v : ℕ) → post j v false → P j v → ⊥) (empty_is : (j : ℕ) → P j 0) where
+  one_is : q ≡ true → (j : ℕ) → j < n → Dec (get_or ss j 0 ≡ 0) → P j (get_or ss j 0)
+  one_is e j l (yes z) = rw z (empty_is j)
+  one_is e j l (no full) = yes_is j (get_or ss j 0) (s.all e j (omega (arith, shown.size), full))
+
+  pub all_pass : q ≡ true → (j : ℕ) → j < n → P j (r j)
+  all_pass e j l = rw (← shown.at j l) (one_is e j l (ℕ_discrete (get_or ss j 0) 0))
+
+  pub some_fails : q ≡ false → ((j : ℕ) → j < n → P j (r j)) → ⊥
+  some_fails e all =
+      let f = s.some e in
+      let l : f.0 < n = omega (arith, shown.size, f.1.0) in
+      no_is f.0 (get_or ss f.0 0) f.2 (rw (shown.at f.0 l) (all f.0 l))
+
+  pub says_slots : Says q ((j : ℕ) → j < n → P j (r j))
+  says_slots = says_by q all_pass some_fails
+
+-- a test of a bound says what the demand comes to
+pub says_below : {C : Type 0} (a b : ℕ) → (a < b → C) → (C → a < b) → Says (ltb a b) C
+says_below {C} a b to from = go (dec_lt a b)
+  where
+    go : Dec (a < b) → Says (ltb a b) C
+    go (yes l) = rw (lt-ltb a b l) (to l)
+    go (no n) = rw (le-ltb a b (omega arith)) (λ x. n (from x))
+
+-- ---- a first-level slot that is empty
 pub names_empty : {b : Machine} {w : Words} {a i v : ℕ} → v ≡ 0 → Names b w a i v
 names_empty e = record { table = λ T x. absurd (omega arith) }
-
-module _ {b : Machine} {w : Words} {a i v : ℕ} (full : v ≡ 0 → ⊥) where
-  pub names_must : Names b w a i v → Is b w a second_level (v - 1) × (w (v - 1) 2 ≡ i)
-  names_must n = n.table (v - 1) (omega arith)
-
-  pub names_table : Is b w a second_level (v - 1) → w (v - 1) 2 ≡ i → Names b w a i v
-  names_table is e =
-      record { table = λ T x. let t : v - 1 ≡ T = omega arith in (rw t at is, rw t at e) }
 
 -- ---- a second-level slot that is not empty
 pub record Slot (b : Machine) (w : Words) (a i j f r : ℕ) : Type 0 where
@@ -36,10 +62,6 @@ whole : (v : ℕ) → slot_word (v / 4096) (v % 4096) ≡ v
 whole v = omega arith
 
 module _ {b : Machine} {w : Words} {a i j : ℕ} where
-  -- and one that is
-  pub slot_empty : {v : ℕ} → v ≡ 0 → SlotOk b w a i j v
-  slot_empty e = rw e empty
-
   pub slot_must : {v : ℕ} → (v ≡ 0 → ⊥) → SlotOk b w a i j v → Slot b w a i j (v / 4096) (v % 4096)
   slot_must full empty = absurd (full refl)
   slot_must {v} full (outside f r is l o) =
@@ -73,21 +95,6 @@ module _ {b : Machine} {w : Words} {a i j : ℕ} where
 pub word_at_lem : (m : Words) (s : ℕ) {v f g i k : ℕ} → v ≡ m (s + f) i → f ≡ g → i ≡ k → v ≡ m (s + g) k
 word_at_lem m s e p q = cc
 
--- the slots of a table, shown by a slice
-pub slots_same : {b : Machine} {w : Words} {a i k n : ℕ} {u v : ℕ → ℕ} → i ≡ k → ((j : ℕ) → j < n → u j ≡ v j)
-    → ((j : ℕ) → j < n → SlotOk b w a i j (u j)) → (j : ℕ) → j < n → SlotOk b w a k j (v j)
-slots_same e same all j l = rw (← e, ← same j l) (all j l)
-
 -- ---- a data page whose first-level slot holds v
-module _ {b : Machine} {w m : Words} {a d v : ℕ} (named : v ≡ m (b.secure + w a 2) (index_of (w d 2))) where
-  pub reached_full : Reached b w m a d → v ≡ 0 → ⊥
-  reached_full x e = omega (arith, x.named)
-
-  module _ (full : v ≡ 0 → ⊥) where
-    pub reached_must : Reached b w m a d → m (b.secure + (v - 1)) (slot_of (w d 2)) ≡ slot_word (b.secure + d) (rights_of (w d 2))
-    reached_must x =
-        let t : v - 1 ≡ x.table = omega (arith, x.named) in
-        rw t x.slot
-
-    pub reached_at : m (b.secure + (v - 1)) (slot_of (w d 2)) ≡ slot_word (b.secure + d) (rights_of (w d 2)) → Reached b w m a d
-    reached_at e = record { table = v - 1; named = omega arith; slot = e }
+pub reached_full : {b : Machine} {w m : Words} {a d v : ℕ} → v ≡ m (b.secure + w a 2) (index_of (w d 2)) → Reached b w m a d → v ≡ 0 → ⊥
+reached_full named x e = omega (arith, x.named)

@@ -40,6 +40,7 @@ module _ {t : ℕ} where
   pub weight_none : t ≤ 1 → 0 ≡ weight t
   weight_none l = simp (le-ltb 1 t l, ne_eqb t 2 (λ e. omega arith), ne_eqb t 5 (λ e. omega arith))
 
+-- ---- and at most
 abbrev most : ℕ
 most = 1 + block_step * data_blocks
 

@@ -1,7 +1,7 @@
 -- A slice that shows the words of a page, of its record, or of the header. Assumes nothing.
 use Prim.Native.Nat.{ℕ, ◌+◌, ◌-◌, ◌*◌, ◌≤◌, ◌<◌}
-use mathlib.Core.Path.{◌≡◌, sym, ◌∙◌}
-use mathlib.Core.Bool.{Bool}
+use mathlib.Core.Path.{◌≡◌, refl, sym, ◌∙◌}
+use mathlib.Core.Bool.{Bool, true, false}
 use mathlib.Core.List.{List}
 use native.Mathlib.Omega.{arith}
 use lib.ListN.{length, get_or, take, drop, length-take, length-drop}
@@ -10,6 +10,7 @@ use Rattle.words.specs.Words.{record_words, Says}
 use Rattle.words.proofs.Says.{says_same}
 use Rattle.machine.specs.declared.Machine.{Machine}
 use Rattle.machine.specs.Machine.{frame_words, header_words}
+use Rattle.mapping.specs.Mapping.{well_formed}
 use Rattle.ledger.specs.Ledger.{header, rec}
 use Rattle.memory.specs.Memory.{frame, words_of}
 use Rattle.memory.proofs.Frames.{length_words_of, words_of_at}
@@ -27,6 +28,14 @@ page_shown M f l e = rw e (record { size = length_words_of M f l; at = words_of_
 pub here_shown : {b : Machine} {M L : List ℕ} {p : ℕ} {ws : List ℕ} → Here b M L p → ws ≡ words_of M (b.secure + p)
     → Shows ws (frame M (b.secure + p)) frame_words
 here_shown {b} {M} {p = p} h e = page_shown M (b.secure + p) (omega (arith, h.lent.memory, h.lent.fits.secure_below, h.below)) e
+
+-- the first m of the words shown
+pub first_shown : {ws : List ℕ} {r : ℕ → ℕ} {n : ℕ} (m : ℕ) → Shows ws r n → m ≤ n → Shows (take m ws) r m
+first_shown {ws} m s l =
+    record {
+      size = simp length-take (omega (arith, s.size));
+      at = λ k h. get_or-take m ws k 0 h ∙ s.at k (omega arith);
+    }
 
 -- a part of a list: n words from word a on
 pub part_shown : (ws : List ℕ) (a n : ℕ) → a + n ≤ length ws → Shows (take (a + n - a) (drop a ws)) (λ k. get_or ws (a + k) 0) n
@@ -59,13 +68,14 @@ module _ {ws : List ℕ} {r : ℕ → ℕ} {n : ℕ} (s : Shows ws r n) (lo : �
   pub says_zeros : (q : Bool) → Says q ((k : ℕ) → lo ≤ k → k < length ws → get_or ws k 0 ≡ 0) → Says q (Zeros r lo n)
   says_zeros q = says_same q to_zeros from_zeros
 
--- a test of a part is one of the list's words there
-pub says_part : (ws : List ℕ) (a n : ℕ) → a + n ≤ length ws → (q : Bool)
-    → Says q ((k : ℕ) → 0 ≤ k → k < length (take (a + n - a) (drop a ws)) → get_or (take (a + n - a) (drop a ws)) k 0 ≡ 0)
-    → Says q ((j : ℕ) → a ≤ j → j < a + n → get_or ws j 0 ≡ 0)
-says_part ws a n l q s =
-    says_same q
-    (λ z j lo hi.
-    let e : a + (j - a) ≡ j = omega arith in
-    rw e at (z (j - a) (omega arith) (omega arith)))
-    (λ all k lo hi. all (a + k) (omega arith) (omega arith)) (says_zeros (part_shown ws a n l) 0 q s)
+-- an answer that is known either way
+pub says_by : {C : Type 0} (q : Bool) → (q ≡ true → C) → (q ≡ false → C → ⊥) → Says q C
+says_by true to from = to refl
+says_by false to from = from refl
+
+-- ---- a test of what a slice shows is a test of the words
+pub test_is : (f : ℕ → Bool) {r t : Bool} {x y : ℕ} → r ≡ f x → x ≡ y → r ≡ t → f y ≡ t
+test_is f e q g = cc
+
+pub formed_is : {r t : Bool} {x y : ℕ} → r ≡ well_formed x → x ≡ y → r ≡ t → well_formed y ≡ t
+formed_is = test_is well_formed

@@ -1,6 +1,6 @@
 -- What the parts of the acceptance check decide. A reader need not believe these: the check's own contract is `Says r (Accepted b M L)`,
 -- and proofs/Parts.antt shows that the parts together are just that. Assumes nothing.
-use Rattle.std.specs.Prelude.{ℕ, zero, suc, ◌+◌, ◌-◌, ◌*◌, ◌≤◌, ◌<◌, ◌≡◌, true, List, length, get_or}
+use Rattle.std.specs.Prelude.{ℕ, zero, suc, ◌+◌, ◌-◌, ◌*◌, ◌%◌, ◌≤◌, ◌<◌, ◌≡◌, Bool, true, false, List, length, get_or, Option, MatchOption}
 use Rattle.words.specs.Words.{record_words, sum_below}
 use Rattle.machine.specs.declared.Machine.{Machine}
 use Rattle.machine.specs.Machine.{frame_words, Lent, most_pages}
@@ -56,6 +56,22 @@ pub record Inside (b : Machine) (w : Words) (a i j f r : ℕ) : Type 0 where
 -- the slots of a first-level page or of a table that are looked at together
 abbrev pub stretch : ℕ
 stretch = 32
+
+-- a list of slots that is whole stretches, of a page at most
+pub record WholeStretches (ss : List ℕ) : Type 0 where
+  pub whole : length ss % stretch ≡ 0
+  pub few : length ss ≤ frame_words
+
+-- a test takes each slot of ss that is in use; and each of them passes, or one does not
+abbrev pub Used : List ℕ → ℕ → Type 0
+Used ss j = (j < length ss) × (get_or ss j 0 ≡ 0 → ⊥)
+
+abbrev pub SlotsTake : (ℕ → ℕ → Type 0) → List ℕ → Type 0
+SlotsTake pre ss = (j : ℕ) → Used ss j → pre j (get_or ss j 0)
+
+pub record SlotsPass (post : ℕ → ℕ → Bool → Type 0) (ss : List ℕ) (r : Bool) : Type 0 where
+  pub all : r ≡ true → (j : ℕ) → Used ss j → post j (get_or ss j 0) true
+  pub some : r ≡ false → (j : ℕ) × Used ss j × post j (get_or ss j 0) false
 
 pub record FirstLinks (b : Machine) (w m : Words) (a p : ℕ) : Type 0 where
   pub only : w a first_page_word ≡ p
@@ -116,6 +132,13 @@ pub record Count (n : ℕ) (w : Words) (a owned blocks : ℕ) : Type 0 where
 
 abbrev pub Counts : ℕ → Words → Type 0
 Counts n w = (a : ℕ) → a < n → w a type_word ≡ space → Count n w a (sum_below n (tally counted w a)) (sum_below n (tally measured w a))
+
+-- the lowest space among the n pages, if there is one
+abbrev pub NoSpace : ℕ → Words → Type 0
+NoSpace n w = (a : ℕ) → a < n → w a type_word ≡ space → ⊥
+
+abbrev pub LowestSpace : ℕ → Words → Option ℕ → Type 0
+LowestSpace n w r = MatchOption r (NoSpace n w) (λ a. (a < n) × NoSpace a w)
 
 -- both are summed in one word: pages owned, and blocks measured in steps that those do not reach
 abbrev pub block_step : ℕ

@@ -7,7 +7,7 @@ ghost use Rattle.ledger.specs.Names.{running_word};
 ghost use Rattle.ledger.specs.Ledger.{header, rec};
 ghost use Rattle.accept.specs.Accept.{Runs, HeaderOk, free_flag, map_word};
 
-use ledger::{FINAL, FREE, OWNER, RUNNING, STATE, SUSPENDED, THREAD, TYPE, header_word, word};
+use ledger::{OWNER, PageType, RUNNING, SUSPENDED, State, header_word, is_state, is_type, word};
 use machine::{HEADER_WORDS, MAP_END, MAP_START, MAP_WORDS, Machine};
 use words::{WORD_BITS, all_zero};
 
@@ -15,37 +15,27 @@ use words::{WORD_BITS, all_zero};
 fn running_ok(b: Machine, led: &[u32]) -> bool
     ensures { Says result ((t : ℕ) → header led.now running_word ≡ t + 1 → Runs b (rec led.now) t) }
 {
-    let v = header_word(led, RUNNING);
-    if v == 0 {
+    let Some(t) = header_word(led, RUNNING).checked_sub(1) else {
         return true;
-    }
-    let t = v - 1;
+    };
     if b.pages <= t {
         return false;
     }
-    if word(led, t, TYPE) != THREAD {
+    if !is_type(led, t, PageType::Thread) {
         return false;
     }
     if word(led, t, SUSPENDED) != 0 {
         return false;
     }
-    if word(led, word(led, t, OWNER), STATE) != FINAL {
-        return false;
-    }
-    true
+    is_state(led, word(led, t, OWNER), State::Final)
 }
 
 // 1 where p is a page and free.
+#[tactic(auto, unfolding(crate::specs::Accept::free_flag))]
 fn free_bit(n: u32, led: &[u32], p: u32) -> u32
     ensures { result ≡ free_flag n (rec led.now) p }
 {
-    if n <= p {
-        return 0;
-    }
-    if word(led, p, TYPE) != FREE {
-        return 0;
-    }
-    1
+    u32::from(p < n && is_type(led, p, PageType::Free))
 }
 
 // Word j of the free map, by the pages' types. (Past the last page it is 0, and no page is asked.)
@@ -57,10 +47,8 @@ fn map_word(n: u32, led: &[u32], j: u32) -> u32
         return 0;
     }
     let mut sum: u32 = 0;
-    let mut i: u32 = 0;
-    while i < WORD_BITS {
+    for i in 0..WORD_BITS {
         sum += free_bit(n, led, WORD_BITS * j + i) << i;
-        i += 1;
     }
     sum
 }
@@ -69,16 +57,15 @@ fn map_word(n: u32, led: &[u32], j: u32) -> u32
 fn map_ok(n: u32, led: &[u32]) -> bool
     ensures { Says result ((j : ℕ) → j < map_words → header led.now (map_start + j) ≡ map_word n (rec led.now) j) }
 {
-    let mut j: u32 = 0;
-    while (j as usize) < MAP_WORDS {
-        if header_word(led, MAP_START + (j as usize)) != map_word(n, led, j) {
+    for j in 0..MAP_WORDS {
+        if header_word(led, MAP_START + j) != map_word(n, led, j as u32) {
             return false;
         }
-        j += 1;
     }
     true
 }
 
+// Is the header right?
 pub fn header_ok(b: Machine, led: &[u32]) -> bool
     requires { header_words ≤ length led.now }
     ensures { Says result (HeaderOk b (header led.now) (rec led.now)) }
@@ -89,5 +76,5 @@ pub fn header_ok(b: Machine, led: &[u32]) -> bool
     if !map_ok(b.pages, led) {
         return false;
     }
-    all_zero(&led[0..HEADER_WORDS], MAP_END)
+    all_zero(&led[..HEADER_WORDS], MAP_END)
 }

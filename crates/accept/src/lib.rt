@@ -1,5 +1,6 @@
 // The acceptance check: yes exactly when what is lent keeps the rules. It writes nothing, stops at the first fault, and reads each
 // secure page once, but for the tables' words that are in use and those beside them.
+// kept: machine, memory and ledger side by side: docs/RULES.md, "Forms of the code": memory and ledger are slices of u32
 
 #![tactic(auto)]
 
@@ -13,14 +14,14 @@ ghost use Rattle.accept.specs.Accept.{Accepted};
 
 use counts::counts_ok;
 use header::header_ok;
-use machine::{Machine, lent};
+use machine::Machine;
 use pages::pages_ok;
 
 // Is what is lent as it should be?
 pub fn accepts(b: Machine, mem: &[u32], led: &[u32]) -> bool
     ensures { Says result (Accepted b mem.now led.now) }
 {
-    if !lent(b, mem, led) {
+    if !b.lent(mem, led) {
         return false;
     }
     if !header_ok(b, led) {

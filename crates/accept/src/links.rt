@@ -1,115 +1,74 @@
 // The tables of a space that is not stopped, page by page: what a first-level page, a second-level table and a data page must hold.
 
-ghost use Rattle.std.specs.Prelude.{◌≡◌, ℕ, ◌+◌, ◌*◌, ◌<◌, ◌≤◌, length, get_or};
+ghost use Rattle.std.specs.Prelude.{◌≡◌, ◌+◌, ◌*◌, ◌<◌, ◌≤◌, length};
 ghost use Rattle.words.specs.Words.{Says};
 ghost use Rattle.machine.specs.Machine.{frame_words};
 ghost use Rattle.mapping.specs.Mapping.{rights_end, most_tables};
 ghost use Rattle.ledger.specs.Ledger.{rec};
 ghost use Rattle.ledger.specs.Names.{index_word};
+ghost use Rattle.ledger.specs.Kinds.{type_number};
 ghost use Rattle.memory.specs.Memory.{frame, words_of};
 ghost use Rattle.accept.specs.Accept.{Is, SlotOk};
-ghost use Rattle.accept.specs.Checks.{Here, Names, Inside, FirstLinks, SecondLinks, Reached, stretch};
+ghost use Rattle.accept.specs.Checks.{Here, Names, Inside, FirstLinks, SecondLinks, Reached, WholeStretches, SlotsTake, SlotsPass};
 
-use ledger::{DATA, FIRST_PAGE, INDEX, OWNER, SECOND_LEVEL, TYPE, mapping_word, word};
-use machine::{FRAME_WORDS, Machine, insecure};
-use mapping::{EXECUTE, MOST_TABLES, PAGE_BYTES, RIGHTS_END, SLOTS, TABLE_BYTES};
+use ledger::{FIRST_PAGE, INDEX, OWNER, PageType, is_type, mapping_word, word};
+use machine::{FRAME_WORDS, Machine};
+use mapping::{EXECUTE, MOST_TABLES, PAGE_BYTES, RIGHTS_END, TABLE_BYTES};
 use walk::slot_word;
 use words::all_zero;
 
 // The words of secure page p.
-pub fn page_words(b: Machine, mem: &[u32], p: u32) -> &[u32]
+pub fn page_words(b: Machine, mem: &[u32], p: u32) -> &[u32; FRAME_WORDS]
     requires { frame_words * (b.secure + p) + frame_words ≤ length mem.now }
     ensures { result.now ≡ words_of mem.now (b.secure + p) }
 {
-    let start = FRAME_WORDS * ((b.secure as usize) + (p as usize));
-    let end = start + FRAME_WORDS;
-    &mem[start..end]
+    let (frames, _) = mem.as_chunks::<FRAME_WORDS>();
+    &frames[b.frame(p)]
 }
 
 // Word k of secure page p.
 fn page_word(b: Machine, mem: &[u32], p: u32, k: u32) -> u32
     ensures { result ≡ frame mem.now (b.secure + p) k }
 {
-    memory::word(mem, (b.secure as usize) + (p as usize), k as usize)
+    memory::word(mem, b.frame(p), k as usize)
 }
 
 // Is q a page of type t that a owns?
-pub fn is_page(b: Machine, led: &[u32], a: u32, t: u32, q: u32) -> bool
-    ensures { Says result (Is b (rec led.now) a t q) }
+pub fn is_page(b: Machine, led: &[u32], a: u32, t: PageType, q: u32) -> bool
+    ensures { Says result (Is b (rec led.now) a (type_number t) q) }
 {
-    if b.pages <= q {
-        return false;
-    }
-    if word(led, q, TYPE) != t {
-        return false;
-    }
-    if word(led, q, OWNER) != a {
-        return false;
+    q < b.pages && is_type(led, q, t) && word(led, q, OWNER) == a
+}
+
+// The slots of a page that are looked at together: most stretches are empty, which is seen at once.
+const STRETCH: usize = 32;
+
+// Does each slot in use pass the test of its place and what it holds? (An empty one is fine.)
+fn slots_pass<F: Fn(u32, u32) -> bool>(slots: &[u32], pass: F) -> bool
+    requires whole { WholeStretches slots.now }
+    requires takes { SlotsTake (F.pre pass) slots.now }
+    ensures { SlotsPass (F.post pass) slots.now result }
+{
+    let (stretches, _) = slots.as_chunks::<STRETCH>();
+    for (k, stretch) in stretches.iter().enumerate() {
+        if !all_zero(stretch, 0) {
+            for (i, held) in stretch.iter().enumerate() {
+                if *held != 0 && !pass((STRETCH * k + i) as u32, *held) {
+                    return false;
+                }
+            }
+        }
     }
     true
 }
 
-// The slots of a first-level page or of a table that are looked at together.
-const STRETCH: u32 = 32;
-
-// Are the slots of a stretch empty?
-fn stretch_empty(page: &[u32], from: u32) -> bool
-    requires { from + stretch ≤ length page.now }
-    ensures { Says result ((j : ℕ) → from ≤ j → j < from + stretch → get_or page.now j 0 ≡ 0) }
-{
-    let start = from as usize;
-    let end = start + (STRETCH as usize);
-    all_zero(&page[start..end], 0)
-}
-
-// May slot i of a's first-level page hold v: zero, or page + 1 of a table of a's with index i?
+// May slot i of a's first-level page hold v: page + 1 of a table of a's with index i?
 fn slot_names(b: Machine, led: &[u32], a: u32, i: u32, v: u32) -> bool
+    requires { v ≡ 0 → ⊥ }
     ensures { Says result (Names b (rec led.now) a i v) }
 {
-    if v == 0 {
-        return true;
-    }
     let t = v - 1;
-    if !is_page(b, led, a, SECOND_LEVEL, t) {
-        return false;
-    }
-    if word(led, t, INDEX) != i {
-        return false;
-    }
-    true
-}
-
-// May the slots of a stretch? (Most stretches are empty, which is seen at once.)
-fn stretch_names(b: Machine, led: &[u32], a: u32, page: &[u32], from: u32) -> bool
-    requires { (length page.now ≡ frame_words) × (from + stretch ≤ most_tables) }
-    ensures { Says result ((i : ℕ) → from ≤ i → i < from + stretch → Names b (rec led.now) a i (get_or page.now i 0)) }
-{
-    if stretch_empty(page, from) {
-        return true;
-    }
-    let mut i = from;
-    while i < from + STRETCH {
-        if !slot_names(b, led, a, i, page[i as usize]) {
-            return false;
-        }
-        i += 1;
-    }
-    true
-}
-
-// May all of them?
-fn slots_name(b: Machine, led: &[u32], a: u32, page: &[u32]) -> bool
-    requires { length page.now ≡ frame_words }
-    ensures { Says result ((i : ℕ) → i < most_tables → Names b (rec led.now) a i (get_or page.now i 0)) }
-{
-    let mut from: u32 = 0;
-    while from < MOST_TABLES {
-        if !stretch_names(b, led, a, page, from) {
-            return false;
-        }
-        from += STRETCH;
-    }
-    true
+    is_page(b, led, a, PageType::SecondLevel, t) && word(led, t, INDEX) == i
 }
 
 // Is frame f that of a data page of a's whose mapping word is address (i, j) with these rights?
@@ -117,27 +76,19 @@ fn inside(b: Machine, led: &[u32], a: u32, i: u32, j: u32, f: u32, rights: u32) 
     requires { (i < most_tables) × (j < frame_words) × (rights < rights_end) }
     ensures { Says result (Inside b (rec led.now) a i j f rights) }
 {
-    if f < b.secure {
+    let Some(d) = f.checked_sub(b.secure) else {
         return false;
-    }
-    let d = f - b.secure;
-    if !is_page(b, led, a, DATA, d) {
-        return false;
-    }
-    if mapping_word(led, d).0 != i * TABLE_BYTES + j * PAGE_BYTES + rights {
-        return false;
-    }
-    true
+    };
+    is_page(b, led, a, PageType::Data, d)
+        && mapping_word(led, d).0 == i * TABLE_BYTES + j * PAGE_BYTES + rights
 }
 
-// May slot j of a's table with index i hold this: zero, an insecure frame without the execute right, or such a data page?
+// May slot j of a's table with index i hold this: an insecure frame without the execute right, or such a data page?
 fn slot_ok(b: Machine, led: &[u32], a: u32, i: u32, j: u32, held: u32) -> bool
-    requires { (i < most_tables) × (j < frame_words) }
+    requires place { (i < most_tables) × (j < frame_words) }
+    requires used { held ≡ 0 → ⊥ }
     ensures { Says result (SlotOk b (rec led.now) a i j held) }
 {
-    if held == 0 {
-        return true;
-    }
     let rights = held % PAGE_BYTES;
     let f = held / PAGE_BYTES;
     if RIGHTS_END <= rights {
@@ -146,46 +97,10 @@ fn slot_ok(b: Machine, led: &[u32], a: u32, i: u32, j: u32, held: u32) -> bool
     if rights % 2 != 1 {
         return false;
     }
-    if insecure(b, f) {
-        if EXECUTE <= rights {
-            return false;
-        }
-        return true;
+    if b.insecure(f) {
+        return rights < EXECUTE;
     }
     inside(b, led, a, i, j, f, rights)
-}
-
-// May the slots of a stretch?
-fn stretch_ok(b: Machine, led: &[u32], a: u32, i: u32, page: &[u32], from: u32) -> bool
-    requires { (i < most_tables) × (length page.now ≡ frame_words) × (from + stretch ≤ frame_words) }
-    ensures { Says result ((j : ℕ) → from ≤ j → j < from + stretch → SlotOk b (rec led.now) a i j (get_or page.now j 0)) }
-{
-    if stretch_empty(page, from) {
-        return true;
-    }
-    let mut j = from;
-    while j < from + STRETCH {
-        if !slot_ok(b, led, a, i, j, page[j as usize]) {
-            return false;
-        }
-        j += 1;
-    }
-    true
-}
-
-// May all of them?
-fn slots_ok(b: Machine, led: &[u32], a: u32, i: u32, page: &[u32]) -> bool
-    requires { (i < most_tables) × (length page.now ≡ frame_words) }
-    ensures { Says result ((j : ℕ) → j < frame_words → SlotOk b (rec led.now) a i j (get_or page.now j 0)) }
-{
-    let mut from: u32 = 0;
-    while from < SLOTS {
-        if !stretch_ok(b, led, a, i, page, from) {
-            return false;
-        }
-        from += STRETCH;
-    }
-    true
 }
 
 // Is p the first-level page that a names, and does it name a's tables?
@@ -197,10 +112,8 @@ pub fn first_links(b: Machine, mem: &[u32], led: &[u32], a: u32, p: u32) -> bool
         return false;
     }
     let page = page_words(b, mem, p);
-    if !slots_name(b, led, a, page) {
-        return false;
-    }
-    all_zero(page, MOST_TABLES as usize)
+    let slots = &page[..MOST_TABLES as usize];
+    slots_pass(slots, |i, v| slot_names(b, led, a, i, v)) && all_zero(page, MOST_TABLES as usize)
 }
 
 // Does a's first-level page name table p, and are the table's slots as they should?
@@ -213,7 +126,8 @@ pub fn second_links(b: Machine, mem: &[u32], led: &[u32], a: u32, p: u32) -> boo
     if page_word(b, mem, word(led, a, FIRST_PAGE), i) != p + 1 {
         return false;
     }
-    slots_ok(b, led, a, i, page_words(b, mem, p))
+    let page = page_words(b, mem, p);
+    slots_pass(page, |j, held| slot_ok(b, led, a, i, j, held))
 }
 
 // Does the slot to which data page d's mapping word leads name it, with its rights?
@@ -222,12 +136,9 @@ pub fn reached(b: Machine, mem: &[u32], led: &[u32], a: u32, d: u32) -> bool
     ensures { Says result (Reached b (rec led.now) (frame mem.now) a d) }
 {
     let map = mapping_word(led, d);
-    let v = page_word(b, mem, word(led, a, FIRST_PAGE), map.index());
-    if v == 0 {
+    let named = page_word(b, mem, word(led, a, FIRST_PAGE), map.index());
+    let Some(t) = named.checked_sub(1) else {
         return false;
-    }
-    if page_word(b, mem, v - 1, map.slot()) != slot_word(b.secure + d, map.rights()) {
-        return false;
-    }
-    true
+    };
+    page_word(b, mem, t, map.slot()) == slot_word(b.secure + d, map.rights())
 }

@@ -11,9 +11,9 @@ ghost use Rattle.accept.specs.Checks.{Here, Wiped, Owned, FreePage, SpacePage, T
 
 use crate::links::{first_links, is_page, page_words, reached, second_links};
 use ledger::{
-    BUILDING, DATA, ENTRY, FIRST_LEVEL, FIRST_PAGE, FLAG, FLAGS, FREE, FREE_END, INDEX, NAMED_END,
-    OWNED_END, OWNER, REGISTERS, SECOND_LEVEL, SPACE, SPACE_END, SPARE, STATE, STOPPED, SUSPENDED,
-    THREAD, THREAD_END, TYPE, mapping_word, word,
+    ENTRY, FIRST_PAGE, FLAG, FLAGS, FREE_END, INDEX, NAMED_END, OWNED_END, OWNER, PageType,
+    REGISTERS, SPACE_END, STATE, SUSPENDED, State, THREAD_END, TYPE, is_state, is_type,
+    mapping_word, word,
 };
 use machine::{HEADER_WORDS, Machine};
 use mapping::{MOST_TABLES, legal_entry};
@@ -43,25 +43,18 @@ fn owned(b: Machine, led: &[u32], lo: usize, p: u32) -> bool
     ensures { Says result (Owned b (rec led.now) lo p) }
 {
     let a = word(led, p, OWNER);
-    if b.pages <= a {
-        return false;
-    }
-    if word(led, a, TYPE) != SPACE {
-        return false;
-    }
-    zeros(led, p, lo, RECORD_WORDS)
+    a < b.pages && is_type(led, a, PageType::Space) && zeros(led, p, lo, RECORD_WORDS)
 }
 
 // ---- one for each type
+// kept: four parameters and `Here`, or that the ledger has page p's record, no struct of them with ghost fields: no plainer, because every
+// contract then says self.now.led.now
 
 fn free_page(b: Machine, mem: &[u32], led: &[u32], p: u32) -> bool
     requires { Here b mem.now led.now p }
     ensures { Says result (FreePage b (rec led.now) (frame mem.now) p) }
 {
-    if !zeros(led, p, FREE_END, RECORD_WORDS) {
-        return false;
-    }
-    wiped(b, mem, p)
+    zeros(led, p, FREE_END, RECORD_WORDS) && wiped(b, mem, p)
 }
 
 // Has page p the record of an address space?
@@ -69,32 +62,20 @@ fn space_record(b: Machine, led: &[u32], p: u32) -> bool
     requires { header_words + record_words * p + record_words ≤ length led.now }
     ensures { Says result (SpaceRec b.pages p (rec led.now p)) }
 {
-    if word(led, p, OWNER) != p {
-        return false;
-    }
-    if b.pages <= word(led, p, FIRST_PAGE) {
-        return false;
-    }
-    if STOPPED < word(led, p, STATE) {
-        return false;
-    }
-    zeros(led, p, SPACE_END, RECORD_WORDS)
+    word(led, p, OWNER) == p
+        && word(led, p, FIRST_PAGE) < b.pages
+        && word(led, p, STATE) <= State::Stopped.number()
+        && zeros(led, p, SPACE_END, RECORD_WORDS)
 }
 
 fn space_page(b: Machine, mem: &[u32], led: &[u32], p: u32) -> bool
     requires { Here b mem.now led.now p }
     ensures { Says result (SpacePage b (rec led.now) (frame mem.now) p) }
 {
-    if !space_record(b, led, p) {
-        return false;
-    }
-    if !wiped(b, mem, p) {
-        return false;
-    }
-    if word(led, p, STATE) == STOPPED {
-        return true;
-    }
-    is_page(b, led, p, FIRST_LEVEL, word(led, p, FIRST_PAGE))
+    space_record(b, led, p)
+        && wiped(b, mem, p)
+        && (is_state(led, p, State::Stopped)
+            || is_page(b, led, p, PageType::FirstLevel, word(led, p, FIRST_PAGE)))
 }
 
 // Of a thread whose words after the flags are zero: may it start at its entry, are its registers zero unless it is suspended, and is its owner
@@ -114,84 +95,50 @@ fn thread_rules(led: &[u32], p: u32) -> bool
     if suspended == 0 {
         return zeros(led, p, REGISTERS, THREAD_END);
     }
-    if suspended != 1 {
-        return false;
-    }
-    if word(led, word(led, p, OWNER), STATE) == BUILDING {
-        return false;
-    }
-    true
+    suspended == 1 && !is_state(led, word(led, p, OWNER), State::Building)
 }
 
 fn thread_page(b: Machine, mem: &[u32], led: &[u32], p: u32) -> bool
     requires { Here b mem.now led.now p }
     ensures { Says result (ThreadPage b (rec led.now) (frame mem.now) p) }
 {
-    if !owned(b, led, THREAD_END, p) {
-        return false;
-    }
-    if !thread_rules(led, p) {
-        return false;
-    }
-    wiped(b, mem, p)
+    owned(b, led, THREAD_END, p) && thread_rules(led, p) && wiped(b, mem, p)
 }
 
 fn first_page(b: Machine, mem: &[u32], led: &[u32], p: u32) -> bool
     requires { Here b mem.now led.now p }
     ensures { Says result (FirstPage b (rec led.now) (frame mem.now) p) }
 {
-    if !owned(b, led, OWNED_END, p) {
-        return false;
-    }
     let a = word(led, p, OWNER);
-    if word(led, a, STATE) == STOPPED {
-        return true;
-    }
-    first_links(b, mem, led, a, p)
+    owned(b, led, OWNED_END, p)
+        && (is_state(led, a, State::Stopped) || first_links(b, mem, led, a, p))
 }
 
 fn second_page(b: Machine, mem: &[u32], led: &[u32], p: u32) -> bool
     requires { Here b mem.now led.now p }
     ensures { Says result (SecondPage b (rec led.now) (frame mem.now) p) }
 {
-    if !owned(b, led, NAMED_END, p) {
-        return false;
-    }
-    if MOST_TABLES <= word(led, p, INDEX) {
-        return false;
-    }
     let a = word(led, p, OWNER);
-    if word(led, a, STATE) == STOPPED {
-        return true;
-    }
-    second_links(b, mem, led, a, p)
+    owned(b, led, NAMED_END, p)
+        && word(led, p, INDEX) < MOST_TABLES
+        && (is_state(led, a, State::Stopped) || second_links(b, mem, led, a, p))
 }
 
 fn data_page(b: Machine, mem: &[u32], led: &[u32], p: u32) -> bool
     requires { Here b mem.now led.now p }
     ensures { Says result (DataPage b (rec led.now) (frame mem.now) p) }
 {
-    if !owned(b, led, NAMED_END, p) {
-        return false;
-    }
-    if !mapping_word(led, p).well_formed() {
-        return false;
-    }
     let a = word(led, p, OWNER);
-    if word(led, a, STATE) == STOPPED {
-        return true;
-    }
-    reached(b, mem, led, a, p)
+    owned(b, led, NAMED_END, p)
+        && mapping_word(led, p).well_formed()
+        && (is_state(led, a, State::Stopped) || reached(b, mem, led, a, p))
 }
 
 fn spare_page(b: Machine, mem: &[u32], led: &[u32], p: u32) -> bool
     requires { Here b mem.now led.now p }
     ensures { Says result (SparePage b (rec led.now) (frame mem.now) p) }
 {
-    if !owned(b, led, OWNED_END, p) {
-        return false;
-    }
-    wiped(b, mem, p)
+    owned(b, led, OWNED_END, p) && wiped(b, mem, p)
 }
 
 // Is page p what its type asks?
@@ -199,16 +146,15 @@ fn page_ok(b: Machine, mem: &[u32], led: &[u32], p: u32) -> bool
     requires { Here b mem.now led.now p }
     ensures { Says result (Page b (rec led.now) (frame mem.now) p (rec led.now p type_word)) }
 {
-    let t = word(led, p, TYPE);
-    match t {
-        FREE => free_page(b, mem, led, p),
-        SPACE => space_page(b, mem, led, p),
-        THREAD => thread_page(b, mem, led, p),
-        FIRST_LEVEL => first_page(b, mem, led, p),
-        SECOND_LEVEL => second_page(b, mem, led, p),
-        DATA => data_page(b, mem, led, p),
-        SPARE => spare_page(b, mem, led, p),
-        _ => false,
+    match PageType::try_from(word(led, p, TYPE)) {
+        Ok(PageType::Free) => free_page(b, mem, led, p),
+        Ok(PageType::Space) => space_page(b, mem, led, p),
+        Ok(PageType::Thread) => thread_page(b, mem, led, p),
+        Ok(PageType::FirstLevel) => first_page(b, mem, led, p),
+        Ok(PageType::SecondLevel) => second_page(b, mem, led, p),
+        Ok(PageType::Data) => data_page(b, mem, led, p),
+        Ok(PageType::Spare) => spare_page(b, mem, led, p),
+        Err(_) => false,
     }
 }
 
@@ -217,12 +163,10 @@ pub fn pages_ok(b: Machine, mem: &[u32], led: &[u32]) -> bool
     requires { Lent b mem.now led.now }
     ensures { Says result (Pages b (rec led.now) (frame mem.now)) }
 {
-    let mut p: u32 = 0;
-    while p < b.pages {
+    for p in 0..b.pages {
         if !page_ok(b, mem, led, p) {
             return false;
         }
-        p += 1;
     }
     true
 }

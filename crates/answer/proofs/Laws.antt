@@ -1,8 +1,8 @@
--- What a call's refusals say, for its code and for what is proved above, and the two ends of a call's code. Assumes nothing.
+-- What a call's refusals say, for its code and for what is proved above, and a call's code where a check refuses. Assumes nothing.
 use Prim.Native.Nat.{ℕ, zero, suc, ◌+◌, ◌<◌}
 use mathlib.Core.Path.{◌≡◌, refl, sym, ap, ◌∙◌}
 use mathlib.Core.Bool.{Bool, true, false}
-use mathlib.Core.List.{List, ◌∷◌}
+use mathlib.Core.List.{List, [], ◌∷◌}
 use native.Mathlib.Nat.{suc-ne-zero}
 use native.Mathlib.Omega.{arith}
 use lib.Dec.{leb, eqb}
@@ -15,14 +15,13 @@ use Rattle.ledger.specs.Ledger.{rec}
 use Rattle.ledger.specs.Names.{free, space, building}
 use Rattle.memory.specs.Memory.{frame}
 use Rattle.walk.specs.Walk.{walk}
-use Rattle.walk.specs.declared.Walked.TheVariants.{At, NoTable}
+use Rattle.std.specs.Prelude.{Result, Err, Some, None, IsErrAnd}
 use Rattle.walk.proofs.Laws.{Holds, by_word, walk_nothing, walk_table}
-use Rattle.answer.specs.declared.Regs.{Regs}
-use Rattle.answer.specs.declared.Mac.{Mac}
+use Rattle.answer.specs.declared.refusals.Refusal.{Refusal}
 use Rattle.answer.specs.declared.Answer.{Answer}
-use Rattle.answer.specs.declared.Answer.TheVariants.{Refused, Done, Attested, Runs}
-use Rattle.answer.specs.Answer.{Out, done, registers, mac_words, numbers, refused, unless, call, as_code, pg_code, building_code, addr_code, index_code, taken_code}
-use Rattle.answer.specs.Refusals.{no_table, slot_taken}
+use Rattle.answer.specs.Answer.{Out, numbers, refused, unless, call, as_code, pg_code, building_code, addr_code, index_code, taken_code}
+use Rattle.answer.specs.Refusals.{number, number_of, no_table, slot_taken}
+use Rattle.answer.proofs.Checks.{number_some, handed}
 
 module _ (b : Machine) (L : List ℕ) where
   pub passes_as : (a : ℕ) → as_code b L a ≡ 0 → (a < b.pages) × (rec L a 0 ≡ space)
@@ -55,11 +54,11 @@ module _ (M : List ℕ) (s f : ℕ) where
       by_word M s f va (λ z. absurd (no (walk_nothing M s f va z)))
       (λ T t. record { table = T; named = t; slot = empty (walk_table M s f va T t) })
     where
-      no : walk 2 M s f va ≡ NoTable → ⊥
+      no : walk 2 M s f va ≡ None → ⊥
       no w = let z : ◌≡◌ {A = ℕ} no_table 0 = ap taken_code (sym w) ∙ e in omega arith
 
-      empty : {T v : ℕ} → walk 2 M s f va ≡ At T v → v ≡ 0
-      empty {v} w = eqb-true v 0 (zero_pick (eqb v 0) 6 (ap taken_code (sym w) ∙ e))
+      empty : {T v : ℕ} → walk 2 M s f va ≡ Some (record { table = T; word = v }) → v ≡ 0
+      empty {v = v} w = eqb-true v 0 (zero_pick (eqb v 0) 6 (ap taken_code (sym w) ∙ e))
 
   pub passes_index : (i : ℕ) → index_code M s f i ≡ 0 → (i < most_tables) × (frame M (s + f) i ≡ 0)
   unfolding index_code
@@ -95,22 +94,10 @@ pub kept_by_call : (P : List ℕ → List ℕ → Type 0) (code : ℕ) (M L : Li
     → P (call code M L o).mem (call code M L o).led
 kept_by_call P code M L o old new = by_code M L (λ x. P x.mem x.led) (λ _ _. old) code o new
 
--- ---- the code's returns, from the check's result r: refused; done with the numbers vs
-pub said : {r code : ℕ} (M L : List ℕ) (o : Out) → r ≡ code → (r ≡ 0 → ⊥)
-    → record { ans = numbers (Refused r); mem = M; led = L } ≡ call code M L o
-said M L o e h = ap (λ (c : ℕ). refused c M L) e ∙ sym (call_refused M L o (λ z. h (e ∙ z)))
-
-pub did_with : {r code : ℕ} {vs M' L' M₁ L₁ : List ℕ} (a : Answer) (M L : List ℕ) → r ≡ code → r ≡ 0 → numbers a ≡ vs → M₁ ≡ M' → L₁ ≡ L'
-    → record { ans = numbers a; mem = M₁; led = L₁ } ≡ call code M L (record { ans = vs; mem = M'; led = L' })
-did_with {vs = vs} {M' = M'} {L' = L'} a M L e z n m l = cc (call_done M L (record { ans = vs; mem = M'; led = L' }) (sym e ∙ z))
-
-pub did : {r code : ℕ} {M' L' M₁ L₁ : List ℕ} (M L : List ℕ) → r ≡ code → r ≡ 0 → M₁ ≡ M' → L₁ ≡ L'
-    → record { ans = numbers Done; mem = M₁; led = L₁ } ≡ call code M L (done M' L')
-did M L e z m l = did_with Done M L e z refl m l
-
--- ---- the numbers of the answers that carry a struct
-pub runs : {r : Regs} {ws : List ℕ} → registers r ≡ ws → numbers (Runs r) ≡ 0 ∷ ws
-runs e = ap (λ (ws : List ℕ). 0 ∷ ws) e
-
-pub attested : {m : Mac} {ws : List ℕ} → mac_words m ≡ ws → numbers (Attested m) ≡ 0 ∷ ws
-attested e = ap (λ (ws : List ℕ). 0 ∷ ws) e
+-- ---- a check refused, and `?` hands it on
+pub said : {r : Result Unit Refusal} {e : Refusal} {code : ℕ} (q : Result Answer Refusal) (M L : List ℕ) (o : Out) → r ≡ Err e → number_of r ≡ code
+    → IsErrAnd q (λ x. x ≡ e) → record { ans = numbers q; mem = M; led = L } ≡ call code M L o
+said {e} {code} q M L o is says out =
+    let here : number e ≡ code = sym (ap number_of is) ∙ says in
+    ap (λ (a : List ℕ). record { ans = a; mem = M; led = L }) (ap numbers (handed out) ∙ ap (λ (c : ℕ). c ∷ []) here)
+    ∙ sym (call_refused M L o (λ z. number_some e (here ∙ z)))

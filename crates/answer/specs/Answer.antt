@@ -1,52 +1,31 @@
 -- What a call leaves, the numbers of an answer, and the refusals that several calls share. Assumes nothing.
-use Rattle.std.specs.Prelude.{ℕ, zero, suc, ◌+◌, ◌-◌, not, List, [], ◌∷◌, leb, eqb, get_or}
+use Rattle.std.specs.Prelude.{ℕ, zero, suc, ◌+◌, ◌-◌, not, List, [], ◌∷◌, leb, eqb, Option, Some, None, Result, Ok, Err}
 use Rattle.words.specs.Words.{pick, when, first}
 use Rattle.machine.specs.declared.Machine.{Machine}
 use Rattle.mapping.specs.Mapping.{most_tables}
 use Rattle.ledger.specs.Ledger.{header, type_of, owner_of, state_of}
 use Rattle.ledger.specs.Names.{running_word, free, space, building}
 use Rattle.memory.specs.Memory.{frame}
-use Rattle.walk.specs.declared.Walked.{Walked}
-use Rattle.walk.specs.declared.Walked.TheVariants.{At, NoTable}
+use Rattle.walk.specs.declared.Slot.{Slot}
 use Rattle.walk.specs.Walk.{walk}
-use Rattle.answer.specs.declared.Regs.{Regs}
-use Rattle.answer.specs.declared.Mac.{Mac}
+use Rattle.answer.specs.declared.refusals.Refusal.{Refusal}
 use Rattle.answer.specs.declared.Answer.{Answer}
-use Rattle.answer.specs.declared.Answer.TheVariants.{Refused, Done, Value, Pair, Attested, Runs, Interrupted, Faulted}
-use Rattle.answer.specs.Refusals.{no_such_page, not_free, not_space, wrong_state, slot_taken, no_table, no_such_index, interrupted, faulted}
+use Rattle.answer.specs.declared.Answer.TheVariants.{Done, Value, Pair, Attested, Runs, Interrupted, Faulted}
+use Rattle.answer.specs.Refusals.{number, no_such_page, not_free, not_space, wrong_state, slot_taken, no_table, no_such_index, interrupted, faulted}
 
 -- ---- "An answer record is: code (0 when done), values": the numbers of an answer, for each of its cases
-abbrev pub registers : Regs → List ℕ
-registers r =
-    r.r0 ∷ r.r1 ∷ r.r2 ∷ r.r3 ∷ r.r4 ∷ r.r5 ∷ r.r6 ∷ r.r7 ∷ r.r8 ∷ r.r9 ∷ r.r10 ∷ r.r11 ∷ r.r12 ∷ r.r13 ∷ r.r14 ∷ r.r15 ∷
-    r.flags ∷ []
+abbrev pub values : Answer → List ℕ
+values Done = 0 ∷ []
+values (Value v) = 0 ∷ v ∷ []
+values (Pair v w) = 0 ∷ v ∷ w ∷ []
+values (Attested mac) = 0 ∷ mac
+values (Runs regs) = 0 ∷ regs
+values Interrupted = interrupted ∷ []
+values Faulted = faulted ∷ []
 
-abbrev pub mac_words : Mac → List ℕ
-mac_words m = m.m0 ∷ m.m1 ∷ m.m2 ∷ m.m3 ∷ m.m4 ∷ m.m5 ∷ m.m6 ∷ m.m7 ∷ []
-
-abbrev pub numbers : Answer → List ℕ
-numbers (Refused c) = c ∷ []
-numbers Done = 0 ∷ []
-numbers (Value v) = 0 ∷ v ∷ []
-numbers (Pair v w) = 0 ∷ v ∷ w ∷ []
-numbers (Attested m) = 0 ∷ mac_words m
-numbers (Runs r) = 0 ∷ registers r
-numbers Interrupted = interrupted ∷ []
-numbers Faulted = faulted ∷ []
-
--- these eight words, as a MAC
-abbrev pub as_mac : List ℕ → Mac
-as_mac ws =
-    record {
-      m0 = get_or ws 0 0;
-      m1 = get_or ws 1 0;
-      m2 = get_or ws 2 0;
-      m3 = get_or ws 3 0;
-      m4 = get_or ws 4 0;
-      m5 = get_or ws 5 0;
-      m6 = get_or ws 6 0;
-      m7 = get_or ws 7 0;
-    }
+abbrev pub numbers : Result Answer Refusal → List ℕ
+numbers (Ok a) = values a
+numbers (Err e) = number e ∷ []
 
 -- ---- what a call leaves: the numbers of its answer, the memory, the ledger
 pub record Out : Type 0 where
@@ -55,7 +34,7 @@ pub record Out : Type 0 where
   pub led : List ℕ
 
 abbrev pub answers : Answer → List ℕ → List ℕ → Out
-answers a M L = record { ans = numbers a; mem = M; led = L }
+answers a M L = record { ans = values a; mem = M; led = L }
 
 -- done, with no value; done with one
 abbrev pub done : List ℕ → List ℕ → Out
@@ -66,7 +45,7 @@ gives v = answers (Value v)
 
 -- "A refused call changes nothing beyond its answer record, which holds the number": where no check refuses, the call is done
 abbrev pub refused : ℕ → List ℕ → List ℕ → Out
-refused c = answers (Refused c)
+refused c M L = record { ans = c ∷ []; mem = M; led = L }
 
 unfoldable pub unless : ℕ → Out → Out → Out
 unless zero x o = o
@@ -101,9 +80,9 @@ building_code b L a =
     ∷ [])
 
 -- ADDR: "no table 8, slot taken 7"; s the first secure frame, f the first-level page
-abbrev pub taken_code : Walked → ℕ
-taken_code NoTable = no_table
-taken_code (At p v) = pick (eqb v 0) 0 slot_taken
+abbrev pub taken_code : Option Slot → ℕ
+taken_code None = no_table
+taken_code (Some x) = pick (eqb x.word 0) 0 slot_taken
 
 unfoldable pub addr_code : List ℕ → ℕ → ℕ → ℕ → ℕ
 addr_code M s f va = taken_code (walk 2 M s f va)

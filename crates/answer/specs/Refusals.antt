@@ -1,5 +1,8 @@
 -- Document 01 and the requests: the number of each refusal, by its name, and the codes that end a run. Assumes nothing.
-use Rattle.std.specs.Prelude.{ℕ}
+use Rattle.std.specs.Prelude.{ℕ, ◌≡◌, Result, Ok, Err, MatchResult}
+use Rattle.answer.specs.declared.refusals.Refusal.{Refusal}
+use Rattle.answer.specs.declared.refusals.Refusal.TheVariants.{NoSuchPage, NotFree, NotSpace, WrongState, OwnerNotFinal, IllFormed, SlotTaken, NoTable, NotInsecure, NotThread, IsSuspended, NotSuspended, NotStopped, StillOwns, WrongTime, NotOwnSpare, NotOwnData, IllFitting, BadRecord, NoSuchIndex, AlreadyFree, BadEntry, BadBlock, NotAccepted}
+use Rattle.answer.specs.declared.refusals.NoRefusal.{NoRefusal}
 
 -- "page ≥ n 1"
 abbrev pub no_such_page : ℕ
@@ -102,3 +105,38 @@ interrupted = 32
 
 abbrev pub faulted : ℕ
 faulted = 33
+
+-- the number of each of the code's refusals; of a check 0 where it passes
+abbrev pub number : Refusal → ℕ
+number NoSuchPage = no_such_page
+number NotFree = not_free
+number NotSpace = not_space
+number WrongState = wrong_state
+number OwnerNotFinal = owner_not_final
+number IllFormed = ill_formed
+number SlotTaken = slot_taken
+number NoTable = no_table
+number NotInsecure = not_insecure
+number NotThread = not_thread
+number IsSuspended = is_suspended
+number NotSuspended = not_suspended
+number NotStopped = not_stopped
+number StillOwns = still_owns
+number WrongTime = wrong_time
+number NotOwnSpare = not_own_spare
+number NotOwnData = not_own_data
+number IllFitting = ill_fitting
+number BadRecord = bad_record
+number NoSuchIndex = no_such_index
+number AlreadyFree = already_free
+number BadEntry = bad_entry
+number BadBlock = bad_block
+number NotAccepted = not_accepted
+
+abbrev pub number_of : Result Unit Refusal → ℕ
+number_of (Ok x) = 0
+number_of (Err e) = number e
+
+-- a number's refusal, or that it has none
+abbrev pub Numbered : ℕ → Result Refusal NoRefusal → Type 0
+Numbered w r = MatchResult r (λ e. number e ≡ w) (λ no. (no.0 ≡ w) × ((e : Refusal) → number e ≡ w → ⊥))

@@ -5,7 +5,7 @@ use Rattle.words.specs.Words.{pick}
 use Rattle.sha256.specs.Hmac.{hmac}
 use Rattle.ledger.specs.Ledger.{key, hash, eight}
 use Rattle.answer.specs.declared.Answer.TheVariants.{Attested}
-use Rattle.answer.specs.Answer.{Out, as_mac, answers, gives, owner}
+use Rattle.answer.specs.Answer.{Out, answers, gives, owner}
 
 -- ---- 32 GetRandom w (from hardware): w
 unfoldable pub get_random : List ℕ → List ℕ → ℕ → Out
@@ -16,7 +16,7 @@ unfoldable pub mac : List ℕ → List ℕ → List ℕ → List ℕ
 mac L measurement text = eight (hmac (key L) (measurement ++ text))
 
 unfoldable pub attest : List ℕ → List ℕ → List ℕ → Out
-attest M L text = answers (Attested (as_mac (mac L (hash L (owner L)) text))) M L
+attest M L text = answers (Attested (mac L (hash L (owner L)) text)) M L
 
 -- ---- 34 Verify data 8, measurement 8, MAC 8: 1 or 0
 unfoldable pub same_words : List ℕ → List ℕ → Bool

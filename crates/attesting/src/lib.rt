@@ -2,18 +2,19 @@
 
 #![tactic(auto)]
 
-ghost use Rattle.std.specs.Prelude.{◌≡◌, ◌&&◌, List, ◌++◌, ℕ, eqb, length};
-ghost use Rattle.answer.specs.Answer.{numbers};
+ghost use Rattle.std.specs.Prelude.{◌≡◌, List, ◌++◌, ℕ};
+ghost use Rattle.answer.specs.Answer.{values};
 ghost use Rattle.attesting.specs.Calls.{get_random, mac, attest, same_words, verify};
 
-use answer::{Answer, Mac, running_owner};
+use answer::{Answer, running_owner};
 use ledger::{HASH_WORDS, hash_words, key_words};
 use sha256::hmac;
 
 // ---- 32 GetRandom
 
+#[tactic(auto, unfolding(crate::specs::Calls::get_random))]
 pub fn get_random(w: u32) -> Answer
-    ensures { (M L : List ℕ) → record { ans = numbers result; mem = M; led = L } ≡ get_random M L w }
+    ensures { (M L : List ℕ) → record { ans = values result; mem = M; led = L } ≡ get_random M L w }
 {
     Answer::Value(w)
 }
@@ -24,65 +25,59 @@ pub fn get_random(w: u32) -> Answer
 const SIGNED: usize = 16;
 
 // Eight words and eight more.
-fn joined(m: &[u32], d: &[u32]) -> [u32; SIGNED]
-    requires { (length m.now ≡ 8) × (length d.now ≡ 8) }
+fn joined(m: &[u32; HASH_WORDS], d: &[u32; HASH_WORDS]) -> [u32; SIGNED]
     ensures { result ≡ m.now ++ d.now }
 {
-    [
-        m[0], m[1], m[2], m[3], m[4], m[5], m[6], m[7], d[0], d[1], d[2], d[3], d[4], d[5], d[6],
-        d[7],
-    ]
+    let mut both = [0u32; SIGNED];
+    both[..HASH_WORDS].copy_from_slice(m);
+    both[HASH_WORDS..].copy_from_slice(d);
+    both
 }
 
-fn mac_of(led: &[u32], measurement: &[u32], text: &[u32]) -> [u32; HASH_WORDS]
-    requires { (length measurement.now ≡ 8) × (length text.now ≡ 8) }
+// The MAC over a measurement and a text, by the key.
+#[tactic(auto, using(ledger::proofs::Effects::eight_same), unfolding(crate::specs::Calls::mac))]
+fn mac_of(
+    led: &[u32],
+    measurement: &[u32; HASH_WORDS],
+    text: &[u32; HASH_WORDS],
+) -> [u32; HASH_WORDS]
     ensures { result ≡ mac led.now measurement.now text.now }
 {
-    let key = key_words(led);
     let both = joined(measurement, text);
-    hmac(&key, &both)
+    hmac(&key_words(led), &both)
 }
 
-pub fn attest(led: &[u32], text: &[u32]) -> Answer
-    requires { length text.now ≡ 8 }
-    ensures { (M : List ℕ) → record { ans = numbers result; mem = M; led = led.now } ≡ attest M led.now text.now }
+#[tactic(auto, unfolding(crate::specs::Calls::attest))]
+pub fn attest(led: &[u32], text: &[u32; HASH_WORDS]) -> Answer
+    ensures { (M : List ℕ) → record { ans = values result; mem = M; led = led.now } ≡ attest M led.now text.now }
 {
     let measurement = hash_words(led, running_owner(led));
-    Answer::Attested(Mac::of(mac_of(led, &measurement, text)))
+    Answer::Attested(mac_of(led, &measurement, text))
 }
 
 // ---- 34 Verify
 
-fn still_same(same: bool, x: u32, y: u32) -> bool
-    ensures { result ≡ (same && eqb x y) }
-{
-    if x != y {
-        return false;
-    }
-    same
-}
-
-// Are the words the same? All are compared, so that the time does not tell where they differ.
-fn same_words(xs: &[u32], ys: &[u32]) -> bool
-    requires { length xs.now ≡ length ys.now }
+// Are the words the same?
+// kept: not by `==` of arrays: docs/DECISIONS.md: all words are compared, so that the time does not tell where a wrong MAC differs
+fn same_words(xs: &[u32; HASH_WORDS], ys: &[u32; HASH_WORDS]) -> bool
     ensures { result ≡ same_words xs.now ys.now }
 {
     let mut same = true;
-    let mut i = 0;
-    while i < xs.len() {
-        same = still_same(same, xs[i], ys[i]);
-        i += 1;
+    for (x, y) in xs.iter().zip(ys) {
+        same &= x == y;
     }
     same
 }
 
-pub fn verify(led: &[u32], text: &[u32], measurement: &[u32], claim: &[u32]) -> Answer
-    requires { (length text.now ≡ 8) × (length measurement.now ≡ 8) × (length claim.now ≡ 8) }
-    ensures { (M : List ℕ) → record { ans = numbers result; mem = M; led = led.now } ≡ verify M led.now text.now measurement.now claim.now }
+#[tactic(auto, unfolding(crate::specs::Calls::verify))]
+pub fn verify(
+    led: &[u32],
+    text: &[u32; HASH_WORDS],
+    measurement: &[u32; HASH_WORDS],
+    claim: &[u32; HASH_WORDS],
+) -> Answer
+    ensures { (M : List ℕ) → record { ans = values result; mem = M; led = led.now } ≡ verify M led.now text.now measurement.now claim.now }
 {
     let m = mac_of(led, measurement, text);
-    if same_words(&m, claim) {
-        return Answer::Value(1);
-    }
-    Answer::Value(0)
+    Answer::Value(u32::from(same_words(&m, claim)))
 }

@@ -16,20 +16,18 @@ use Rattle.batch.specs.Turns.{record_of, turned, so_far}
 use Rattle.batch.proofs.Cut.{after_after}
 
 -- ---- a turn: the answer Y goes to words a to e of the answers A, which are those of record j
-pub part_turned : {M' L' vs Y : List ℕ} (b : Machine) (M L W A : List ℕ) (j a e : ℕ) → a ≡ record_words * j → e ≡ a + record_words
-    → record { ans = vs; mem = M'; led = L' } ≡ obey b M L (take (e - a) (drop a W)) → Y ≡ padded vs
+pub part_turned : {M' L' vs Y R : List ℕ} (b : Machine) (M L W A : List ℕ) (j a e : ℕ) → a ≡ record_words * j → e ≡ a + record_words
+    → R ≡ record_of W j → record { ans = vs; mem = M'; led = L' } ≡ obey b M L R → Y ≡ padded vs
     → record { ans = put_mid a (e - a) A Y; mem = M'; led = L' } ≡ turned b M L W A j
 unfolding turned
-part_turned {M'} {L'} {vs} {Y} b M L W A j a e p q o y =
-    let here : obey b M L (take (e - a) (drop a W)) ≡ obey b M L (record_of W j) =
-    ap (λ (x : ℕ). obey b M L (take x (drop a W))) {x = e - a} {y = record_words} (omega arith) ∙ ap (λ (x : ℕ). obey b M L (take record_words (drop x W))) p in
+part_turned {M'} {L'} {vs} {Y} b M L W A j a e p q r o y =
     ap (λ (l : List ℕ). record { ans = l; mem = M'; led = L' })
     (ap (λ (l : List ℕ). take a A ++ (l ++ post_of a (e - a) A)) y
     ∙ ap (λ (l : List ℕ). take a A ++ (padded vs ++ l)) (Post-is a e A (omega arith) ∙ ap (λ (x : ℕ). drop x A) q)
     ∙ ap (λ (x : ℕ). take x A ++ (padded vs ++ drop (x + record_words) A)) p)
     ∙ ap
     (λ (x : Out). record { ans = take (record_words * j) A ++ (padded x.ans ++ drop (record_words * j + record_words) A); mem = x.mem; led = x.led })
-    (o ∙ here)
+    (o ∙ ap (obey b M L) r)
 
 -- ---- what the loop keeps
 module _ (b : Machine) (k : ℕ) where

@@ -1,11 +1,13 @@
 // The service: a batch, where what is lent fits it and acceptance passes.
+// kept: machine, memory and ledger side by side: docs/RULES.md, "Forms of the code": memory and ledger are slices of u32
 
 ghost use Rattle.words.specs.Words.{Says};
+ghost use Rattle.answer.specs.Refusals.{number_of};
 ghost use Rattle.batch.specs.Service.{BatchFits, Batched};
 
 use crate::list::run;
 use accept::accepts;
-use answer::ILL_FITTING;
+use answer::Refusal;
 use machine::Machine;
 use words::RECORD_WORDS;
 
@@ -37,12 +39,12 @@ pub fn serve(
     led: &mut [u32],
     calls: &[u32],
     answers: &mut [u32],
-) -> u32
-    ensures { Batched b mem.old led.old calls.now answers.old result mem.new led.new answers.new }
+) -> Result<(), Refusal>
+    ensures { Batched b mem.old led.old calls.now answers.old (number_of result) mem.new led.new answers.new }
 {
     if !batch_fits(b, mem, led, calls, answers) {
-        return ILL_FITTING;
+        return Err(Refusal::IllFitting);
     }
     run(b, mem, led, calls, answers, calls.len() / RECORD_WORDS);
-    0
+    Ok(())
 }

@@ -1,15 +1,16 @@
 -- What Boot leaves: the words of a fresh ledger and of the secure frames, and that acceptance passes. Assumes nothing.
 use Prim.Native.Nat.{ℕ, suc, ◌+◌, ◌-◌, ◌*◌, ◌%◌, ◌^◌, ◌≤◌, ◌<◌}
 use mathlib.Core.Path.{◌≡◌, refl, sym, ap, ◌∙◌}
+use mathlib.Core.Logic.{⊎_elim}
 use mathlib.Core.List.{List, [], ◌∷◌, ◌++◌, append_assoc}
 use native.Mathlib.Omega.{arith}
-use borrow.Rule.Slice.PartMut.{mid_of, post_of, put_mid, mid_len, Post-is}
-use lib.ListN.{length, get_or, take, drop, replicate, length-append, length-replicate, replicate-append-replicate, get_or-append}
+use lib.ListN.{length, get_or, drop, replicate, length-append, length-replicate, replicate-append-replicate, get_or-append}
 use lib.Seq.{get_or-append-add, take_at, drop_at}
 use lib.Pow.{pow_pos}
 use Rattle.words.specs.Words.{record_words, paste, list_below}
 use Rattle.words.specs.Maps.{word_of}
 use Rattle.words.proofs.Bits.{shift}
+use Rattle.words.proofs.Cases.{lt_or_ge}
 use Rattle.words.proofs.Sums.{sum_ext}
 use Rattle.words.proofs.Maps.{map_facts}
 use Rattle.words.proofs.Paste.{length-paste, paste_in}
@@ -22,19 +23,24 @@ use Rattle.memory.specs.Memory.{frame}
 use Rattle.accept.specs.Accept.{Words, Zeros, free_flag, map_word, Rules, Accepted}
 use Rattle.boot.specs.Boot.{fresh_map, fresh_ledger, fresh_memory, BootFits}
 
--- ---- word j of the free map, as the code makes it: no page, 32 pages or more, c pages from 32 j on
+-- ---- word j of the free map, as the code makes it: 32 pages or more from 32 j on, or c of them
 module _ (b : Machine) (j : ℕ) where
   pub map_empty : b.pages ≤ 32 * j → 0 ≡ fresh_map b j
   unfolding fresh_map map_word free_flag word_of
   map_empty l = sym ((map_facts map_words).fresh_empty b.pages j l)
 
-  pub map_full : 32 * j + 32 ≤ b.pages → 4294967295 ≡ fresh_map b j
+  pub map_full : 32 ≤ b.pages - 32 * j → 4294967295 ≡ fresh_map b j
   unfolding fresh_map map_word free_flag word_of
-  map_full l = sym ((map_facts map_words).fresh_full b.pages j l)
+  map_full l = sym ((map_facts map_words).fresh_full b.pages j (omega arith))
 
-  pub map_part : (c : ℕ) → 32 * j + c ≡ b.pages → c < 32 → (1 * 2 ^ c) % 4294967296 - 1 ≡ fresh_map b j
+  pub map_part : (c : ℕ) → c ≡ b.pages - 32 * j → c < 32 → (1 * 2 ^ c) % 4294967296 - 1 ≡ fresh_map b j
   unfolding fresh_map map_word free_flag word_of
-  map_part c e l = rw (shift c l) (sym ((map_facts map_words).fresh_part b.pages j c e l))
+  map_part c e l =
+      rw (shift c l)
+      (⊎_elim
+      (λ m. ap (λ (x : ℕ). 2 ^ x - 1) {x = c} {y = 0} (omega arith) ∙ sym ((map_facts map_words).fresh_empty b.pages j (omega arith)))
+      (λ m. sym ((map_facts map_words).fresh_part b.pages j c (omega arith) l))
+      (lt_or_ge b.pages (32 * j)))
 
 -- there is something to take 1 from
 pub shift_pos : (c : ℕ) → c < 32 → 1 ≤ (1 * 2 ^ c) % 4294967296
@@ -141,16 +147,6 @@ module _ (b : Machine) (M : List ℕ) (l : frame_words * b.secure + frame_words 
       ap (λ (x : ℕ). get_or (fresh_memory b M) x 0) {x = frame_words * (b.secure + p) + k} {y = frame_words * b.secure + (frame_words * p + k)} (omega arith)
       ∙ paste_in M (frame_words * b.secure) (frame_words * b.pages) zeros l size (frame_words * p + k) (omega arith)
       ∙ zeros_at (frame_words * b.pages) (frame_words * p + k)
-
-  -- as the code makes it: the part that holds the secure frames gets zeros
-  pub memory_made : {Y : List ℕ} (a e : ℕ) → a ≡ frame_words * b.secure → e ≡ a + frame_words * b.pages → Y ≡ replicate (length (mid_of a (e - a) M)) 0
-      → put_mid a (e - a) M Y ≡ fresh_memory b M
-  unfolding fresh_memory paste
-  memory_made {Y} a e p q y =
-      let long : length (mid_of a (e - a) M) ≡ frame_words * b.pages = mid_len a e M (omega arith) ∙ omega arith in
-      ap (λ (x : List ℕ). take a M ++ (x ++ post_of a (e - a) M)) (y ∙ ap (λ (x : ℕ). replicate {A = ℕ} x 0) long)
-      ∙ ap (λ (x : List ℕ). take a M ++ (zeros ++ x)) (Post-is a e M (omega arith) ∙ ap (λ (x : ℕ). drop x M) q)
-      ∙ ap (λ (x : ℕ). take x M ++ (zeros ++ drop (x + frame_words * b.pages) M)) p
 
 -- ---- acceptance: of views where all pages are free and blank, and of what Boot leaves
 pub fresh : (b : Machine) (h : ℕ → ℕ) (w m : Words) → h running_word ≡ 0 → Zeros h (map_start + map_words) header_words

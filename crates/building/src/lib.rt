@@ -1,203 +1,220 @@
 // Calls 2-8: an address space, its threads, tables, spare and data pages, its insecure mappings, its measurement.
+// kept: machine, memory and ledger side by side: docs/RULES.md, "Forms of the code": memory and ledger are slices of u32
 
 #![tactic(auto)]
 
 ghost use Rattle.std.specs.Prelude.{◌≡◌, List, ℕ, ◌+◌, ◌*◌, ◌≤◌, length};
 ghost use Rattle.machine.specs.Machine.{frame_words, Lent};
 ghost use Rattle.memory.specs.Memory.{words_of};
+ghost use Rattle.answer.specs.Refusals.{number_of};
 ghost use Rattle.answer.specs.Answer.{numbers};
-ghost use Rattle.building.specs.Parts.{two_free_code, place_code};
-ghost use Rattle.building.specs.Calls.{init_addr_space_code, new_space, init_addr_space, init_thread_code, thread_block, add_thread, new_thread, init_thread, init_table_code, new_table, init_table, alloc_spare_code, new_spare, alloc_spare, map_secure_code, map_block, add_page, new_data, map_secure, map_insecure_code, map_insecure, finalised, finalise};
+ghost use Rattle.building.specs.Parts.{block_of, place_code};
+ghost use Rattle.building.specs.Calls.{init_addr_space_code, new_space, init_addr_space, init_thread_code, add_thread, new_thread, init_thread, init_table_code, new_table, init_table, alloc_spare_code, new_spare, alloc_spare, map_secure_code, add_page, new_data, map_secure, map_insecure_code, map_insecure, finalised, finalise};
 
 use answer::{
-    Answer, BAD_ENTRY, ILL_FORMED, NO_SUCH_PAGE, NOT_FREE, NOT_INSECURE, WRONG_STATE, addr_code,
-    building_code, index_code, page_code, space_code,
+    Answer, Refusal, check_addr, check_building, check_index, check_page, check_space, refuse,
 };
 use ledger::{
-    BLOCKS, DATA_BLOCKS, FINAL, FIRST_LEVEL, FIRST_PAGE, FREE, HASH_WORDS, SECOND_LEVEL, SPARE,
-    STATE, STOPPED, THREAD, TYPE, add_blocks, gain_page, hash_words, occupy_data, occupy_page,
-    occupy_space, put_hash, store, word,
+    BLOCKS, DATA_BLOCKS, FIRST_PAGE, HASH_WORDS, PageType, STATE, State, add_blocks, gain_page,
+    hash_words, is_state, is_type, occupy_data, occupy_page, occupy_space, put_hash, store, word,
 };
-use machine::{FRAME_WORDS, Machine, insecure};
+use machine::{FRAME_WORDS, Machine};
 use mapping::{Mapping, legal_entry};
 use sha256::{absorb, compress, finish, start};
 use walk::{fill, link, map_page, slot_word};
-use words::{either, refuse};
 
-// What is measured is blocks of 16 words; the first word says what was added.
+// What is measured is blocks of so many words.
 const BLOCK: usize = 16;
 
-const THREAD_BLOCK: u32 = 1;
+// What was added: a block's first word.
+#[derive(Clone, Copy)]
+enum Added {
+    Thread = 1,
+    Page = 2,
+}
 
-const MAP_BLOCK: u32 = 2;
+// The block that says what was added, and its word: an entry point, a mapping.
+fn block(added: Added, word: u32) -> [u32; BLOCK]
+    ensures { result ≡ block_of added word }
+{
+    let mut words = [0u32; BLOCK];
+    words[0] = added as u32;
+    words[1] = word;
+    words
+}
 
 // ---- 2 InitAddrSpace
 
-// Both free, and two pages.
-fn two_free_code(led: &[u32], a: u32, f: u32) -> u32
-    ensures { result ≡ two_free_code led.now a f }
+// The refusals of call 2.
+#[tactic(auto, unfolding(crate::specs::Calls::init_addr_space_code, words::specs::Words::or))]
+fn check_init_addr_space(b: Machine, led: &[u32], a: u32, f: u32) -> Result<(), Refusal>
+    ensures { number_of result ≡ init_addr_space_code b led.now a f }
 {
-    either(
-        refuse(word(led, a, TYPE) != FREE, NOT_FREE),
-        either(
-            refuse(word(led, f, TYPE) != FREE, NOT_FREE),
-            refuse(a == f, NOT_FREE),
-        ),
-    )
+    refuse(b.pages <= a, Refusal::NoSuchPage)?;
+    refuse(b.pages <= f, Refusal::NoSuchPage)?;
+    refuse(!is_type(led, a, PageType::Free), Refusal::NotFree)?;
+    refuse(!is_type(led, f, PageType::Free), Refusal::NotFree)?;
+    refuse(a == f, Refusal::NotFree)
 }
 
-fn init_addr_space_code(b: Machine, led: &[u32], a: u32, f: u32) -> u32
-    ensures { result ≡ init_addr_space_code b led.now a f }
-{
-    either(
-        refuse(b.pages <= a, NO_SUCH_PAGE),
-        either(refuse(b.pages <= f, NO_SUCH_PAGE), two_free_code(led, a, f)),
-    )
-}
-
+// Page a becomes a space, and page f its first-level page.
+#[tactic(auto, using(ledger::proofs::Short::occupy_short), unfolding(crate::specs::Calls::new_space))]
 fn new_space(led: &mut [u32], a: u32, f: u32)
     ensures { led.new ≡ new_space led.old a f }
 {
     occupy_space(led, a, f, start());
-    occupy_page(led, f, FIRST_LEVEL, a, 0);
+    occupy_page(led, f, PageType::FirstLevel, a, 0);
 }
 
-pub fn init_addr_space(b: Machine, led: &mut [u32], a: u32, f: u32) -> Answer
+// A new address space in page a, with first-level page f.
+#[tactic(auto, unfolding(crate::specs::Calls::init_addr_space, answer::specs::Answer::unless))]
+pub fn init_addr_space(b: Machine, led: &mut [u32], a: u32, f: u32) -> Result<Answer, Refusal>
     ensures { (M : List ℕ) → record { ans = numbers result; mem = M; led = led.new } ≡ init_addr_space b M led.old a f }
 {
-    let code = init_addr_space_code(b, led, a, f);
-    if code != 0 {
-        return Answer::Refused(code);
-    }
+    check_init_addr_space(b, led, a, f)?;
     new_space(led, a, f);
-    Answer::Done
+    Ok(Answer::Done)
 }
 
 // ---- 3 InitThread
 
-fn init_thread_code(b: Machine, led: &[u32], a: u32, t: u32, entry: u32) -> u32
-    ensures { result ≡ init_thread_code b led.now a t entry }
+// The refusals of call 3.
+#[tactic(auto, unfolding(crate::specs::Calls::init_thread_code, words::specs::Words::or))]
+fn check_init_thread(b: Machine, led: &[u32], a: u32, t: u32, entry: u32) -> Result<(), Refusal>
+    ensures { number_of result ≡ init_thread_code b led.now a t entry }
 {
-    either(
-        building_code(b, led, a),
-        either(page_code(b, led, t), refuse(!legal_entry(entry), BAD_ENTRY)),
-    )
-}
-
-fn thread_block(entry: u32) -> [u32; BLOCK]
-    ensures { result ≡ thread_block entry }
-{
-    let mut block = [0u32; BLOCK];
-    block[0] = THREAD_BLOCK;
-    block[1] = entry;
-    block
+    check_building(b, led, a)?;
+    check_page(b, led, t)?;
+    refuse(!legal_entry(entry), Refusal::BadEntry)
 }
 
 // The hash h with the thread added.
+#[tactic(auto, unfolding(crate::specs::Calls::add_thread))]
 fn add_thread(h: [u32; HASH_WORDS], entry: u32) -> [u32; HASH_WORDS]
     ensures { result ≡ add_thread h entry }
 {
-    let block = thread_block(entry);
-    compress(h, &block)
+    compress(h, &block(Added::Thread, entry))
 }
 
+// Page t becomes a thread of a, measured.
+#[tactic(auto, unfolding(crate::specs::Calls::new_thread))]
 fn new_thread(led: &mut [u32], a: u32, t: u32, entry: u32)
     ensures { led.new ≡ new_thread led.old a t entry }
 {
     let h = add_thread(hash_words(led, a), entry);
-    occupy_page(led, t, THREAD, a, entry);
+    occupy_page(led, t, PageType::Thread, a, entry);
     gain_page(led, a);
     add_blocks(led, a, 1, h);
 }
 
-pub fn init_thread(b: Machine, led: &mut [u32], a: u32, t: u32, entry: u32) -> Answer
+// A thread of a in page t, which starts at this entry.
+#[tactic(auto, unfolding(crate::specs::Calls::init_thread, answer::specs::Answer::unless))]
+pub fn init_thread(
+    b: Machine,
+    led: &mut [u32],
+    a: u32,
+    t: u32,
+    entry: u32,
+) -> Result<Answer, Refusal>
     ensures { (M : List ℕ) → record { ans = numbers result; mem = M; led = led.new } ≡ init_thread b M led.old a t entry }
 {
-    let code = init_thread_code(b, led, a, t, entry);
-    if code != 0 {
-        return Answer::Refused(code);
-    }
+    check_init_thread(b, led, a, t, entry)?;
     new_thread(led, a, t, entry);
-    Answer::Done
+    Ok(Answer::Done)
 }
 
 // ---- 4 InitL2PTable
 
-fn init_table_code(b: Machine, mem: &[u32], led: &[u32], a: u32, p: u32, i: u32) -> u32
-    ensures { result ≡ init_table_code b mem.now led.now a p i }
+// The refusals of call 4.
+#[tactic(auto, unfolding(crate::specs::Calls::init_table_code, words::specs::Words::or))]
+fn check_init_table(
+    b: Machine,
+    mem: &[u32],
+    led: &[u32],
+    a: u32,
+    p: u32,
+    i: u32,
+) -> Result<(), Refusal>
+    ensures { number_of result ≡ init_table_code b mem.now led.now a p i }
 {
-    either(
-        building_code(b, led, a),
-        either(
-            page_code(b, led, p),
-            index_code(mem, b.secure, word(led, a, FIRST_PAGE), i),
-        ),
-    )
+    check_building(b, led, a)?;
+    check_page(b, led, p)?;
+    check_index(mem, b.secure, word(led, a, FIRST_PAGE), i)
 }
 
+// Page p becomes table i of a.
+// kept: one function for a table and one for a spare page: no plainer as one, because each has its definition, which its clause cites
+#[tactic(auto, unfolding(crate::specs::Calls::new_table))]
 fn new_table(led: &mut [u32], a: u32, p: u32, i: u32)
     ensures { led.new ≡ new_table led.old a p i }
 {
-    occupy_page(led, p, SECOND_LEVEL, a, i);
+    occupy_page(led, p, PageType::SecondLevel, a, i);
     gain_page(led, a);
 }
 
-pub fn init_table(b: Machine, mem: &mut [u32], led: &mut [u32], a: u32, p: u32, i: u32) -> Answer
+// Table i of a in page p.
+#[tactic(auto, unfolding(crate::specs::Calls::init_table, answer::specs::Answer::unless))]
+pub fn init_table(
+    b: Machine,
+    mem: &mut [u32],
+    led: &mut [u32],
+    a: u32,
+    p: u32,
+    i: u32,
+) -> Result<Answer, Refusal>
     ensures { record { ans = numbers result; mem = mem.new; led = led.new } ≡ init_table b mem.old led.old a p i }
 {
-    let code = init_table_code(b, mem, led, a, p, i);
-    if code != 0 {
-        return Answer::Refused(code);
-    }
+    check_init_table(b, mem, led, a, p, i)?;
     link(mem, b.secure, word(led, a, FIRST_PAGE), i, p);
     new_table(led, a, p, i);
-    Answer::Done
+    Ok(Answer::Done)
 }
 
 // ---- 5 AllocSpare
 
-fn alloc_spare_code(b: Machine, led: &[u32], a: u32, p: u32) -> u32
-    ensures { result ≡ alloc_spare_code b led.now a p }
+// The refusals of call 5.
+#[tactic(auto, unfolding(crate::specs::Calls::alloc_spare_code, words::specs::Words::or))]
+fn check_alloc_spare(b: Machine, led: &[u32], a: u32, p: u32) -> Result<(), Refusal>
+    ensures { number_of result ≡ alloc_spare_code b led.now a p }
 {
-    either(
-        space_code(b, led, a),
-        either(
-            refuse(word(led, a, STATE) == STOPPED, WRONG_STATE),
-            page_code(b, led, p),
-        ),
-    )
+    check_space(b, led, a)?;
+    refuse(is_state(led, a, State::Stopped), Refusal::WrongState)?;
+    check_page(b, led, p)
 }
 
+// Page p becomes a spare page of a.
+#[tactic(auto, using(ledger::proofs::Short::occupy_short), unfolding(crate::specs::Calls::new_spare))]
 fn new_spare(led: &mut [u32], a: u32, p: u32)
     ensures { led.new ≡ new_spare led.old a p }
 {
-    occupy_page(led, p, SPARE, a, 0);
+    occupy_page(led, p, PageType::Spare, a, 0);
     gain_page(led, a);
 }
 
-pub fn alloc_spare(b: Machine, led: &mut [u32], a: u32, p: u32) -> Answer
+// A spare page of a in page p.
+#[tactic(auto, unfolding(crate::specs::Calls::alloc_spare, answer::specs::Answer::unless))]
+pub fn alloc_spare(b: Machine, led: &mut [u32], a: u32, p: u32) -> Result<Answer, Refusal>
     ensures { (M : List ℕ) → record { ans = numbers result; mem = M; led = led.new } ≡ alloc_spare b M led.old a p }
 {
-    let code = alloc_spare_code(b, led, a, p);
-    if code != 0 {
-        return Answer::Refused(code);
-    }
+    check_alloc_spare(b, led, a, p)?;
     new_spare(led, a, p);
-    Answer::Done
+    Ok(Answer::Done)
 }
 
 // ---- 6 MapSecure
 
-fn place_code(b: Machine, mem: &[u32], f: u32, map: Mapping, g: u32) -> u32
-    ensures { result ≡ place_code b mem.now f map.0 g }
+// The slot of the mapping, and the frame g.
+#[tactic(auto, unfolding(crate::specs::Parts::place_code, words::specs::Words::or))]
+fn check_place(b: Machine, mem: &[u32], f: u32, map: Mapping, g: u32) -> Result<(), Refusal>
+    ensures { number_of result ≡ place_code b mem.now f map.0 g }
 {
-    either(
-        addr_code(mem, b.secure, f, map),
-        refuse(!insecure(b, g), NOT_INSECURE),
-    )
+    check_addr(mem, b.secure, f, map)?;
+    refuse(!b.insecure(g), Refusal::NotInsecure)
 }
 
-fn map_secure_code(
+// The refusals of call 6.
+#[tactic(auto, unfolding(crate::specs::Calls::map_secure_code, crate::specs::Parts::place_code, words::specs::Words::or))]
+fn check_map_secure(
     b: Machine,
     mem: &[u32],
     led: &[u32],
@@ -205,39 +222,28 @@ fn map_secure_code(
     p: u32,
     map: Mapping,
     g: u32,
-) -> u32
-    ensures { result ≡ map_secure_code b mem.now led.now a p map.0 g }
+) -> Result<(), Refusal>
+    ensures { number_of result ≡ map_secure_code b mem.now led.now a p map.0 g }
 {
-    let place = place_code(b, mem, word(led, a, FIRST_PAGE), map, g);
-    either(
-        building_code(b, led, a),
-        either(
-            page_code(b, led, p),
-            either(refuse(!map.well_formed(), ILL_FORMED), place),
-        ),
-    )
-}
-
-fn map_block(map: Mapping) -> [u32; BLOCK]
-    ensures { result ≡ map_block map.0 }
-{
-    let mut block = [0u32; BLOCK];
-    block[0] = MAP_BLOCK;
-    block[1] = map.0;
-    block
+    check_building(b, led, a)?;
+    check_page(b, led, p)?;
+    refuse(!map.well_formed(), Refusal::IllFormed)?;
+    check_place(b, mem, word(led, a, FIRST_PAGE), map, g)
 }
 
 // The hash h with the mapping and the words of frame g added.
+#[tactic(auto, using(memory::proofs::Frames::part_is), unfolding(crate::specs::Calls::add_page))]
 fn add_page(mem: &[u32], h: [u32; HASH_WORDS], map: Mapping, g: usize) -> [u32; HASH_WORDS]
     requires { frame_words * g + frame_words ≤ length mem.now }
     ensures { result ≡ add_page h map.0 (words_of mem.now g) }
 {
-    let block = map_block(map);
     let from = FRAME_WORDS * g;
     let to = from + FRAME_WORDS;
-    absorb(compress(h, &block), &mem[from..to])
+    absorb(compress(h, &block(Added::Page, map.0)), &mem[from..to])
 }
 
+// Page p becomes a data page of a, with its mapping; h is the hash with it added.
+#[tactic(auto, unfolding(crate::specs::Calls::new_data))]
 fn new_data(led: &mut [u32], a: u32, p: u32, map: Mapping, h: [u32; HASH_WORDS])
     ensures { led.new ≡ new_data led.old a p map.0 h }
 {
@@ -246,7 +252,9 @@ fn new_data(led: &mut [u32], a: u32, p: u32, map: Mapping, h: [u32; HASH_WORDS])
     add_blocks(led, a, DATA_BLOCKS, h);
 }
 
-// (The frame is read once: what is measured is what was copied, whoever writes the frame meanwhile.)
+// A data page of a in page p, with the words of the insecure frame g. (The frame is read once: what is measured is what was copied, whoever
+// writes the frame meanwhile.)
+#[tactic(auto, unfolding(crate::specs::Calls::map_secure, answer::specs::Answer::unless))]
 pub fn map_secure(
     b: Machine,
     mem: &mut [u32],
@@ -255,37 +263,41 @@ pub fn map_secure(
     p: u32,
     map: Mapping,
     g: u32,
-) -> Answer
+) -> Result<Answer, Refusal>
     requires { Lent b mem.old led.old }
     ensures { record { ans = numbers result; mem = mem.new; led = led.new } ≡ map_secure b mem.old led.old a p map.0 g }
 {
-    let code = map_secure_code(b, mem, led, a, p, map, g);
-    if code != 0 {
-        return Answer::Refused(code);
-    }
-    let page = (b.secure as usize) + (p as usize);
+    check_map_secure(b, mem, led, a, p, map, g)?;
+    let page = b.frame(p);
     memory::copy(mem, g as usize, page);
     let h = add_page(mem, hash_words(led, a), map, page);
     map_page(mem, b.secure, word(led, a, FIRST_PAGE), map, p);
     new_data(led, a, p, map, h);
-    Answer::Done
+    Ok(Answer::Done)
 }
 
 // ---- 7 MapInsecure
 
-fn map_insecure_code(b: Machine, mem: &[u32], led: &[u32], a: u32, map: Mapping, g: u32) -> u32
-    ensures { result ≡ map_insecure_code b mem.now led.now a map.0 g }
+// The refusals of call 7.
+#[tactic(auto, unfolding(crate::specs::Calls::map_insecure_code, crate::specs::Parts::place_code, words::specs::Words::or))]
+fn check_map_insecure(
+    b: Machine,
+    mem: &[u32],
+    led: &[u32],
+    a: u32,
+    map: Mapping,
+    g: u32,
+) -> Result<(), Refusal>
+    ensures { number_of result ≡ map_insecure_code b mem.now led.now a map.0 g }
 {
-    let place = place_code(b, mem, word(led, a, FIRST_PAGE), map, g);
-    either(
-        building_code(b, led, a),
-        either(
-            refuse(!map.well_formed(), ILL_FORMED),
-            either(refuse(map.executes(), ILL_FORMED), place),
-        ),
-    )
+    check_building(b, led, a)?;
+    refuse(!map.well_formed(), Refusal::IllFormed)?;
+    refuse(map.executes(), Refusal::IllFormed)?;
+    check_place(b, mem, word(led, a, FIRST_PAGE), map, g)
 }
 
+// A mapping of a that names the insecure frame g.
+#[tactic(auto, unfolding(crate::specs::Calls::map_insecure, answer::specs::Answer::unless))]
 pub fn map_insecure(
     b: Machine,
     mem: &mut [u32],
@@ -293,14 +305,11 @@ pub fn map_insecure(
     a: u32,
     map: Mapping,
     g: u32,
-) -> Answer
+) -> Result<Answer, Refusal>
     requires { Lent b mem.old led.now }
     ensures { record { ans = numbers result; mem = mem.new; led = led.now } ≡ map_insecure b mem.old led.now a map.0 g }
 {
-    let code = map_insecure_code(b, mem, led, a, map, g);
-    if code != 0 {
-        return Answer::Refused(code);
-    }
+    check_map_insecure(b, mem, led, a, map, g)?;
     fill(
         mem,
         b.secure,
@@ -308,26 +317,27 @@ pub fn map_insecure(
         map.0,
         slot_word(g, map.rights()),
     );
-    Answer::Done
+    Ok(Answer::Done)
 }
 
 // ---- 8 Finalise
 
+// Space a becomes final, and its hash the measurement.
+#[tactic(auto, unfolding(crate::specs::Calls::finalised))]
 fn close_space(led: &mut [u32], a: u32)
     ensures { led.new ≡ finalised led.old a }
 {
     let h = finish(hash_words(led, a), word(led, a, BLOCKS));
-    store(led, a, STATE, FINAL);
+    store(led, a, STATE, State::Final.number());
     put_hash(led, a, h);
 }
 
-pub fn finalise(b: Machine, led: &mut [u32], a: u32) -> Answer
+// The end of building space a.
+#[tactic(auto, unfolding(crate::specs::Calls::finalise, answer::specs::Answer::unless))]
+pub fn finalise(b: Machine, led: &mut [u32], a: u32) -> Result<Answer, Refusal>
     ensures { (M : List ℕ) → record { ans = numbers result; mem = M; led = led.new } ≡ finalise b M led.old a }
 {
-    let code = building_code(b, led, a);
-    if code != 0 {
-        return Answer::Refused(code);
-    }
+    check_building(b, led, a)?;
     close_space(led, a);
-    Answer::Done
+    Ok(Answer::Done)
 }

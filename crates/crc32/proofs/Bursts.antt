@@ -7,7 +7,7 @@ use native.Mathlib.Nat.{pow-suc, mod-one, mod-eq_of_lt, lt_of_le_of_lt, add_comm
 use native.Mathlib.Omega.{arith}
 use lib.Arith.{mod-mul, digits_div}
 use lib.Bits.{bit_xor, xor_zero_r, xor_self, xor_shr, xor_mod, xor_lt, block_half, block_odd}
-use lib.ListN.{length, get_or, take, drop, take-append-drop, length-drop}
+use lib.ListN.{length, get_or, take, drop, take-append-drop, length-drop, drop_of_length-le}
 use lib.Pow.{pow_pos, pow-add, shr-shr, shr_le, split}
 use lib.Seq.{take_all, get_or-drop}
 use Rattle.words.specs.Words.{word_bits, bit}
@@ -16,7 +16,7 @@ use Rattle.words.proofs.Bits.{bit_zero, bit_suc, bit_of_zero}
 use Rattle.words.proofs.Cases.{lt_or_ge}
 use Rattle.crc32.specs.Crc32.{polynomial, mirrored, bit_in, bits_in, bytes_in, ones, crc32, bit_at}
 use Rattle.crc32.proofs.Laws.{xor_half, xor_odd, xor_assoc, digits, linear, absorb, zeros, shift, parts, byte_first}
-use Rattle.crc32.proofs.Laws.{two_parts, word_more, mirrored_is, bit_fits, bytes_fit}
+use Rattle.crc32.proofs.Laws.{two_parts, next_word, mirrored_is, bit_fits, bytes_fit}
 
 -- ---- exclusive or: of equal numbers alone it is 0, and of a word and its complement it is ones
 pub xor_none : (a b : ℕ) → bit_xor a b ≡ 0 → a ≡ b
@@ -141,15 +141,16 @@ high_same n m a b la lb h =
 -- ---- the register of a list that ends in its CRC
 module _ (A : List ℕ) (n : ℕ) (bytes : AreBytes A) (size : length A ≡ n + 4) (right : crc32 (take n A) ≡ word_at (drop n A) 0) where
   whole : bytes_in ones A ≡ bits_in 32 ones 0
-  unfolding crc32 bytes_in
+  unfolding crc32 bytes_in word_at
   whole =
       let r : ℕ = bytes_in ones (take n A) in
       let E : List ℕ = drop n A in
       let l : r < 2 ^ word_bits = bytes_fit ones (take n A) (omega arith) in
+      let m : length E ≡ 4 = omega (arith, length-drop n A) in
       ap (bytes_in ones) (sym (take-append-drop n A))
       ∙ two_parts ones (take n A) E
-      ∙ ap (bytes_in r) (sym (take_all 4 E (omega (arith, length-drop n A))))
-      ∙ word_more r E 0 (λ k. rw get_or-drop (bytes (n + k))) (omega (arith, length-drop n A))
+      ∙ next_word r E E 0 (word_at E 0) (λ k. rw get_or-drop (bytes (n + k))) (omega arith) (sym (take_all 4 E (omega arith))) (omega arith)
+      ∙ ap (bytes_in (bits_in 32 r (word_at E 0))) (drop_of_length-le E {i = 4} (omega arith))
       ∙ ap (bits_in 32 r) (sym right)
       ∙ absorb 32 r (ones - r) (omega arith)
       ∙ ap (λ (x : ℕ). bits_in 32 x 0) (complement 32 r l)

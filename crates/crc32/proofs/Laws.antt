@@ -12,6 +12,8 @@ use lib.ListN.{length, get_or, take, drop}
 use lib.Seq.{take-suc, drop-cons}
 use lib.Pow.{shr-shr, shr_mod, split, pow_pos}
 use Rattle.words.specs.Words.{word_bits, bit, sum_below}
+use Rattle.std.proofs.Common.{drop-drop, get_or-take, get_or-drop}
+use Rattle.std.specs.Simd.{first_chunks}
 use Rattle.words.specs.Bytes.{AreBytes, word_at}
 use Rattle.crc32.specs.Crc32.{polynomial, mirrored, bit_in, bits_in, bytes_in, ones, crc32}
 use Rattle.crc32.specs.Slices.{Slices, slice_at}
@@ -157,17 +159,45 @@ unfolding bytes_in
 two_parts c [] ys = refl
 two_parts c (x ∷ xs) ys = two_parts (bits_in 8 c x) xs ys
 
+-- from a place on, one byte more
+pub next_byte : (c : ℕ) (bs : List ℕ) (k : ℕ) → k < length bs → bytes_in c (drop k bs) ≡ bytes_in (bits_in 8 c (get_or bs k 0)) (drop (k + 1) bs)
+unfolding bytes_in
+next_byte c bs k l = rw (add-one, drop-cons bs k 0)
+
+-- chunk k of four bytes
+pub chunk_at : (n k : ℕ) (bs : List ℕ) → k < n → get_or (first_chunks 4 n bs) k [] ≡ take 4 (drop (4 * k) bs)
+chunk_at zero k bs h = absurd (omega arith)
+chunk_at (suc n) zero bs h = refl
+chunk_at (suc n) (suc k) bs h =
+    let e : 4 + 4 * k ≡ 4 * suc k = omega arith in
+    chunk_at n k (drop 4 bs) (omega arith) ∙ ap (take 4) (drop-drop (4 * k) 4 bs ∙ ap (λ (i : ℕ). drop i bs) e)
+
+-- from a place on, one word more
+pub next_word : (c : ℕ) (bs p : List ℕ) (k w : ℕ) → AreBytes bs → 4 * k + 4 ≤ length bs → p ≡ take 4 (drop (4 * k) bs)
+    → w ≡ get_or p 0 0 + get_or p 1 0 * 256 + get_or p 2 0 * 65536 + get_or p 3 0 * 16777216
+    → bytes_in c (drop (4 * k) bs) ≡ bytes_in (bits_in 32 c w) (drop (4 * (k + 1)) bs)
+next_word c bs p k w bytes l e f =
+    let at : (i : ℕ) → i < 4 → get_or p i 0 ≡ get_or bs (4 * k + i) 0
+    = λ i h. rw e (get_or-take 4 (drop (4 * k) bs) i 0 h ∙ get_or-drop (4 * k) bs i 0) in
+    let next : (r i j : ℕ) → i + 1 ≡ j → i < length bs → bytes_in r (drop i bs) ≡ bytes_in (bits_in 8 r (get_or bs i 0)) (drop j bs)
+    = λ r i j g h. next_byte r bs i h ∙ ap (λ (m : ℕ). bytes_in (bits_in 8 r (get_or bs i 0)) (drop m bs)) g in
+    let z : 4 * k + 0 ≡ 4 * k = omega arith in
+    let b : ℕ → ℕ = λ i. get_or bs (4 * k + i) 0 in
+    ap (λ (m : ℕ). bytes_in c (drop m bs)) (sym z)
+    ∙ next c (4 * k + 0) (4 * k + 1) (omega arith) (omega arith)
+    ∙ next _ (4 * k + 1) (4 * k + 2) (omega arith) (omega arith)
+    ∙ next _ (4 * k + 2) (4 * k + 3) (omega arith) (omega arith)
+    ∙ next _ (4 * k + 3) (4 * (k + 1)) (omega arith) (omega arith)
+    ∙ ap (λ (r : ℕ). bytes_in r (drop (4 * (k + 1)) bs))
+    (sym (word_bytes c (b 0) (b 1) (b 2) (b 3) (bytes (4 * k + 0)) (bytes (4 * k + 1)) (bytes (4 * k + 2)))
+    ∙ ap (bits_in 32 c) (omega (arith, at 0 (omega arith), at 1 (omega arith), at 2 (omega arith), at 3 (omega arith))))
+
 -- one byte more
 pub one_more : (c : ℕ) (bs : List ℕ) (i j : ℕ) → j ≡ suc i → i < length bs
     → bytes_in c (take j bs) ≡ bits_in 8 (bytes_in c (take i bs)) (get_or bs i 0)
 unfolding bytes_in
 one_more c bs i j e l =
     ap (λ (m : ℕ). bytes_in c (take m bs)) e ∙ ap (bytes_in c) (take-suc bs i 0 l) ∙ two_parts c (take i bs) (get_or bs i 0 ∷ [])
-
--- from a place on, one byte more
-pub next_byte : (c : ℕ) (bs : List ℕ) (k : ℕ) → k < length bs → bytes_in c (drop k bs) ≡ bytes_in (bits_in 8 c (get_or bs k 0)) (drop (k + 1) bs)
-unfolding bytes_in
-next_byte c bs k l = rw (add-one, drop-cons bs k 0)
 
 -- one word more
 pub word_more : (c : ℕ) (bs : List ℕ) (k : ℕ) → AreBytes bs → 4 * k + 4 ≤ length bs

@@ -1034,9 +1034,9 @@ const SLICES: [u32; TABLES] = [
     0xde05_06f1,
 ];
 
-// The tables, for a caller to lend on: one copy serves a whole list of bytes.
-pub fn slices() -> [u32; TABLES]
-    ensures { Slices result }
+// The tables.
+pub fn slices() -> &'static [u32; TABLES]
+    ensures { Slices result.now }
 {
-    SLICES
+    &SLICES
 }

@@ -10,7 +10,7 @@ use Rattle.ledger.specs.Names.{spare}
 use Rattle.ledger.specs.Ledger.{rec}
 use Rattle.memory.specs.Memory.{frame, put_word}
 use Rattle.walk.specs.Walk.{translate, frame_of, word_of}
-use Rattle.walk.specs.declared.Translated.TheVariants.{Yes, No}
+use Rattle.std.specs.Prelude.{Some, None}
 use Rattle.walk.proofs.Laws.{Holds, by-slot}
 use Rattle.answer.specs.Answer.{Out, done, gives, owner}
 use Rattle.answer.proofs.Laws.{passes_addr, passes_index}
@@ -46,28 +46,28 @@ module _ (b : Machine) (M L : List ℕ) (p : ℕ) where
 
 -- ---- an access is translated, or ends the run; what holds in both cases holds of the call
 module _ (b : Machine) (M L : List ℕ) (va : ℕ) where
-  pub load_no : translate M b.secure (first_page L) va false ≡ No → load b M L va ≡ fault M L
+  pub load_no : translate M b.secure (first_page L) va false ≡ None → load b M L va ≡ fault M L
   unfolding load
   load_no e = rw e
 
-  pub load_yes : {v : ℕ} → translate M b.secure (first_page L) va false ≡ Yes v → load b M L va ≡ gives (frame M (frame_of v) (word_of va)) M L
+  pub load_yes : {v : ℕ} → translate M b.secure (first_page L) va false ≡ Some v → load b M L va ≡ gives (frame M (frame_of v) (word_of va)) M L
   unfolding load
   load_yes e = rw e
 
-  pub by_load : (P : Out → Type 0) → (translate M b.secure (first_page L) va false ≡ No → P (fault M L))
-      → ((v : ℕ) → translate M b.secure (first_page L) va false ≡ Yes v → P (gives (frame M (frame_of v) (word_of va)) M L)) → P (load b M L va)
+  pub by_load : (P : Out → Type 0) → (translate M b.secure (first_page L) va false ≡ None → P (fault M L))
+      → ((v : ℕ) → translate M b.secure (first_page L) va false ≡ Some v → P (gives (frame M (frame_of v) (word_of va)) M L)) → P (load b M L va)
   by_load P faults gives = by-slot M b.secure (first_page L) va false (λ e. rw (load_no e) (faults e)) (λ v e. rw (load_yes e) (gives v e))
 
   module _ (w : ℕ) where
-    pub store_no : translate M b.secure (first_page L) va true ≡ No → store b M L va w ≡ fault M L
+    pub store_no : translate M b.secure (first_page L) va true ≡ None → store b M L va w ≡ fault M L
     unfolding store
     store_no e = rw e
 
-    pub store_yes : {v : ℕ} → translate M b.secure (first_page L) va true ≡ Yes v → store b M L va w ≡ done (put_word M (frame_of v) (word_of va) w) L
+    pub store_yes : {v : ℕ} → translate M b.secure (first_page L) va true ≡ Some v → store b M L va w ≡ done (put_word M (frame_of v) (word_of va) w) L
     unfolding store
     store_yes e = rw e
 
-    pub by_store : (P : Out → Type 0) → (translate M b.secure (first_page L) va true ≡ No → P (fault M L))
-        → ((v : ℕ) → translate M b.secure (first_page L) va true ≡ Yes v → P (done (put_word M (frame_of v) (word_of va) w) L))
+    pub by_store : (P : Out → Type 0) → (translate M b.secure (first_page L) va true ≡ None → P (fault M L))
+        → ((v : ℕ) → translate M b.secure (first_page L) va true ≡ Some v → P (done (put_word M (frame_of v) (word_of va) w) L))
         → P (store b M L va w)
     by_store P faults puts = by-slot M b.secure (first_page L) va true (λ e. rw (store_no e) (faults e)) (λ v e. rw (store_yes e) (puts v e))

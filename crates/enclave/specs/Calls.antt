@@ -1,6 +1,6 @@
 -- Document 01, "Calls, checks left to right": calls 35-42, asked by the running enclave. They "act for the running thread's owner".
 -- Assumes nothing.
-use Rattle.std.specs.Prelude.{ℕ, ◌+◌, ◌*◌, ◌/◌, ◌^◌, true, false, not, List, [], ◌∷◌, ◌++◌, get_or, take, leb, eqb}
+use Rattle.std.specs.Prelude.{ℕ, ◌+◌, ◌*◌, ◌/◌, ◌^◌, true, false, not, List, [], ◌∷◌, ◌++◌, get_or, take, leb, eqb, Option, Some, None}
 use Rattle.words.specs.Words.{when, first}
 use Rattle.machine.specs.declared.Machine.{Machine}
 use Rattle.mapping.specs.Mapping.{well_formed}
@@ -8,8 +8,6 @@ use Rattle.ledger.specs.Names.{suspended_word, second_level, data_page, spare}
 use Rattle.ledger.specs.Ledger.{type_of, owner_of, first_of, map_of, puts, anew, run}
 use Rattle.memory.specs.Memory.{frame, put_word, wiped}
 use Rattle.walk.specs.Walk.{translate, frame_of, word_of, filled, mapped, linked}
-use Rattle.walk.specs.declared.Translated.{Translated}
-use Rattle.walk.specs.declared.Translated.TheVariants.{Yes, No}
 use Rattle.answer.specs.declared.Answer.TheVariants.{Interrupted, Faulted}
 use Rattle.answer.specs.Refusals.{no_such_page, ill_formed, not_own_spare, not_own_data}
 use Rattle.answer.specs.Answer.{Out, answers, done, gives, call, addr_code, index_code, running, owner}
@@ -87,17 +85,17 @@ unfoldable pub fault : List ℕ → List ℕ → Out
 fault M L = answers Faulted M (run L 0)
 
 -- ---- 41 Load va: "the word"; where the address is not translated, "as 40"
-abbrev pub load_through : List ℕ → List ℕ → ℕ → Translated → Out
-load_through M L va No = fault M L
-load_through M L va (Yes v) = gives (frame M (frame_of v) (word_of va)) M L
+abbrev pub load_through : List ℕ → List ℕ → ℕ → Option ℕ → Out
+load_through M L va None = fault M L
+load_through M L va (Some v) = gives (frame M (frame_of v) (word_of va)) M L
 
 unfoldable pub load : Machine → List ℕ → List ℕ → ℕ → Out
 load b M L va = load_through M L va (translate M b.secure (first_page L) va false)
 
 -- ---- 42 Store va, w: "writes it"
-abbrev pub store_through : List ℕ → List ℕ → ℕ → ℕ → Translated → Out
-store_through M L va w No = fault M L
-store_through M L va w (Yes v) = done (put_word M (frame_of v) (word_of va) w) L
+abbrev pub store_through : List ℕ → List ℕ → ℕ → ℕ → Option ℕ → Out
+store_through M L va w None = fault M L
+store_through M L va w (Some v) = done (put_word M (frame_of v) (word_of va) w) L
 
 unfoldable pub store : Machine → List ℕ → List ℕ → ℕ → ℕ → Out
 store b M L va w = store_through M L va w (translate M b.secure (first_page L) va true)

@@ -1,21 +1,18 @@
 // Calls 35-37: a spare page becomes a table or a data page, a data page spare again.
+// kept: machine, memory and ledger side by side: docs/RULES.md, "Forms of the code": memory and ledger are slices of u32
 
 ghost use Rattle.std.specs.Prelude.{◌≡◌};
 ghost use Rattle.machine.specs.Machine.{Lent};
+ghost use Rattle.ledger.specs.Kinds.{type_number};
+ghost use Rattle.answer.specs.Refusals.{number, number_of};
 ghost use Rattle.answer.specs.Answer.{numbers};
 ghost use Rattle.enclave.specs.Calls.{first_page, own_code, spare_table_code, spare_table, map_data_code, map_data, unmap_data};
 
-use answer::{
-    Answer, ILL_FORMED, NO_SUCH_PAGE, NOT_OWN_DATA, NOT_OWN_SPARE, addr_code, index_code,
-    running_owner,
-};
-use ledger::{
-    DATA, FIRST_PAGE, OWNER, SECOND_LEVEL, SPARE, TYPE, mapping_word, renew, renew_data, word,
-};
+use answer::{Answer, Refusal, check_addr, check_index, refuse, running_owner};
+use ledger::{FIRST_PAGE, OWNER, PageType, is_type, mapping_word, renew, renew_data, word};
 use machine::Machine;
 use mapping::Mapping;
 use walk::{fill, link, map_page};
-use words::{either, refuse};
 
 // The first-level page of the running thread's owner.
 pub fn first_page(led: &[u32]) -> u32
@@ -25,82 +22,83 @@ pub fn first_page(led: &[u32]) -> u32
 }
 
 // Is p a page of the running thread's owner's, of type t?
-fn own_code(b: Machine, led: &[u32], p: u32, t: u32, refusal: u32) -> u32
-    ensures { result ≡ own_code b led.now p t refusal }
+#[tactic(auto, unfolding(crate::specs::Calls::own_code, words::specs::Words::or))]
+fn check_own(b: Machine, led: &[u32], p: u32, t: PageType, no: Refusal) -> Result<(), Refusal>
+    ensures { number_of result ≡ own_code b led.now p (type_number t) (number no) }
 {
-    either(
-        refuse(b.pages <= p, NO_SUCH_PAGE),
-        either(
-            refuse(word(led, p, OWNER) != running_owner(led), refusal),
-            refuse(word(led, p, TYPE) != t, refusal),
-        ),
-    )
+    refuse(b.pages <= p, Refusal::NoSuchPage)?;
+    refuse(word(led, p, OWNER) != running_owner(led), no)?;
+    refuse(!is_type(led, p, t), no)
 }
 
 // ---- 35 InitL2PTable
 
-fn spare_table_code(b: Machine, mem: &[u32], led: &[u32], p: u32, i: u32) -> u32
-    ensures { result ≡ spare_table_code b mem.now led.now p i }
+#[tactic(auto, unfolding(crate::specs::Calls::spare_table_code, words::specs::Words::or))]
+fn check_spare_table(b: Machine, mem: &[u32], led: &[u32], p: u32, i: u32) -> Result<(), Refusal>
+    ensures { number_of result ≡ spare_table_code b mem.now led.now p i }
 {
-    either(
-        own_code(b, led, p, SPARE, NOT_OWN_SPARE),
-        index_code(mem, b.secure, first_page(led), i),
-    )
+    check_own(b, led, p, PageType::Spare, Refusal::NotOwnSpare)?;
+    check_index(mem, b.secure, first_page(led), i)
 }
 
-pub fn spare_table(b: Machine, mem: &mut [u32], led: &mut [u32], p: u32, i: u32) -> Answer
+#[tactic(auto, using(crate::proofs::Laws::passes_spare_table), unfolding(crate::specs::Calls::spare_table, answer::specs::Answer::unless))]
+pub fn spare_table(
+    b: Machine,
+    mem: &mut [u32],
+    led: &mut [u32],
+    p: u32,
+    i: u32,
+) -> Result<Answer, Refusal>
     ensures { record { ans = numbers result; mem = mem.new; led = led.new } ≡ spare_table b mem.old led.old p i }
 {
-    let code = spare_table_code(b, mem, led, p, i);
-    if code != 0 {
-        return Answer::Refused(code);
-    }
+    check_spare_table(b, mem, led, p, i)?;
     link(mem, b.secure, first_page(led), i, p);
     let a = running_owner(led);
-    renew(led, p, SECOND_LEVEL, a, i);
-    Answer::Done
+    renew(led, p, PageType::SecondLevel, a, i);
+    Ok(Answer::Done)
 }
 
 // ---- 36 MapData
 
-fn map_data_code(b: Machine, mem: &[u32], led: &[u32], p: u32, map: Mapping) -> u32
-    ensures { result ≡ map_data_code b mem.now led.now p map.0 }
+#[tactic(auto, unfolding(crate::specs::Calls::map_data_code, words::specs::Words::or))]
+fn check_map_data(b: Machine, mem: &[u32], led: &[u32], p: u32, map: Mapping) -> Result<(), Refusal>
+    ensures { number_of result ≡ map_data_code b mem.now led.now p map.0 }
 {
-    let addr = addr_code(mem, b.secure, first_page(led), map);
-    either(
-        own_code(b, led, p, SPARE, NOT_OWN_SPARE),
-        either(refuse(!map.well_formed(), ILL_FORMED), addr),
-    )
+    check_own(b, led, p, PageType::Spare, Refusal::NotOwnSpare)?;
+    refuse(!map.well_formed(), Refusal::IllFormed)?;
+    check_addr(mem, b.secure, first_page(led), map)
 }
 
-pub fn map_data(b: Machine, mem: &mut [u32], led: &mut [u32], p: u32, map: Mapping) -> Answer
+#[tactic(auto, using(crate::proofs::Laws::passes_map_data), unfolding(crate::specs::Calls::map_data, answer::specs::Answer::unless))]
+pub fn map_data(
+    b: Machine,
+    mem: &mut [u32],
+    led: &mut [u32],
+    p: u32,
+    map: Mapping,
+) -> Result<Answer, Refusal>
     requires { Lent b mem.old led.old }
     ensures { record { ans = numbers result; mem = mem.new; led = led.new } ≡ map_data b mem.old led.old p map.0 }
 {
-    let code = map_data_code(b, mem, led, p, map);
-    if code != 0 {
-        return Answer::Refused(code);
-    }
+    check_map_data(b, mem, led, p, map)?;
     map_page(mem, b.secure, first_page(led), map, p);
     let a = running_owner(led);
     renew_data(led, p, a, map);
-    Answer::Done
+    Ok(Answer::Done)
 }
 
 // ---- 37 UnmapData
 
-pub fn unmap_data(b: Machine, mem: &mut [u32], led: &mut [u32], p: u32) -> Answer
+#[tactic(auto, using(crate::proofs::Laws::passes_own, crate::proofs::Steps::spare_short), unfolding(crate::specs::Calls::unmap_data, answer::specs::Answer::unless))]
+pub fn unmap_data(b: Machine, mem: &mut [u32], led: &mut [u32], p: u32) -> Result<Answer, Refusal>
     requires { Lent b mem.old led.old }
     ensures { record { ans = numbers result; mem = mem.new; led = led.new } ≡ unmap_data b mem.old led.old p }
 {
-    let code = own_code(b, led, p, DATA, NOT_OWN_DATA);
-    if code != 0 {
-        return Answer::Refused(code);
-    }
+    check_own(b, led, p, PageType::Data, Refusal::NotOwnData)?;
     let map = mapping_word(led, p);
     fill(mem, b.secure, first_page(led), map.0, 0);
-    memory::wipe(mem, (b.secure as usize) + (p as usize));
+    memory::wipe(mem, b.frame(p));
     let a = running_owner(led);
-    renew(led, p, SPARE, a, 0);
-    Answer::Done
+    renew(led, p, PageType::Spare, a, 0);
+    Ok(Answer::Done)
 }

@@ -1,6 +1,7 @@
 // A host that calls the function behind every export with whatever it has: each asks nothing, and each ensures its relation. One that asked
 // for anything, or ensured less, would leave one of these unproved. The crates monitor_c, sha256_host_c and crc32_host_c, on which no crate
 // can depend, export them under the very same clauses.
+// kept: five numbers in each, not a Machine, and a number for an answer: the C interface, whose words stand here once more (.ci/exports)
 
 #![tactic(auto)]
 

@@ -46,9 +46,9 @@ module _ {r : Runs} (b : Machine) (j : ℕ) (is : r ≡ runs_of b j) where
   unfolding runs_of
   past_runs {i} l m = let m' = rw is at m in omega arith
 
-  pub past_image : {i : ℕ} → payload_words * j < image_words b → image_words b ≤ payload_words * j + i → r.ledger + r.frames ≤ i
+  pub past_image : {i : ℕ} → image_words b ≤ payload_words * j + i → r.ledger + r.frames ≤ i
   unfolding runs_of
-  past_image l m = rw is (omega arith)
+  past_image m = rw is (omega arith)
 
   -- ---- the ledger's words: inside, from the payload's place on, all up to the payload's end
   pub ledger_inside : r.from + r.ledger ≤ ledger_words b

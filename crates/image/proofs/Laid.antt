@@ -1,15 +1,17 @@
 -- Words laid into bytes: a word more, a run behind another, all of them at the front. Assumes nothing.
-use Prim.Native.Nat.{ℕ, ◌+◌, ◌*◌, ◌≤◌, ◌<◌}
+use Prim.Native.Nat.{ℕ, zero, suc, ◌+◌, ◌-◌, ◌*◌, ◌≤◌, ◌<◌}
 use mathlib.Core.Path.{◌≡◌, refl, sym, ap, ◌∙◌}
 use mathlib.Core.List.{List, [], ◌∷◌, ◌++◌, append_assoc}
 use native.Mathlib.Omega.{arith}
 use native.Mathlib.Numerals.{add-one}
-use lib.ListN.{length, get_or, take, drop, length-append}
+use borrow.Rule.Slice.PartMut.{mid_of, put_mid, mid_len}
+use lib.ListN.{length, get_or, take, drop, replicate, length-append, length-replicate}
 use lib.Seq.{length-take-le, take-suc, take_all, take_at}
 use Rattle.words.specs.Words.{paste}
 use Rattle.words.specs.Bytes.{word_bytes, bytes_of, little_endian}
 use Rattle.words.proofs.Endian.{length-little_endian, little_endian_append}
-use Rattle.words.proofs.Paste.{paste_none, paste_behind}
+use Rattle.words.proofs.Paste.{paste_none, paste_behind, part_pasted}
+use Rattle.image.specs.Image.{check_at, block_bytes}
 use Rattle.image.specs.Runs.{laid}
 
 -- ---- laid words
@@ -57,6 +59,20 @@ laid_turn {S} {w} B k ws i s e p l fits =
 
 pub laid_all : (B : List ℕ) (k : ℕ) (ws : List ℕ) (i : ℕ) → length ws ≤ i → laid B k (take i ws) ≡ laid B k ws
 laid_all B k ws i l = ap (laid B k) (take_all i ws l)
+
+-- zeros, laid as bytes up to the check
+zero_bytes : (n : ℕ) → replicate {A = ℕ} (4 * n) 0 ≡ little_endian (replicate n 0)
+unfolding little_endian bytes_of
+zero_bytes zero = refl
+zero_bytes (suc n) =
+    ap (λ (x : ℕ). replicate {A = ℕ} x 0) {x = 4 * suc n} {y = suc (suc (suc (suc (4 * n))))} (omega arith) ∙ ap (λ (l : List ℕ). 0 ∷ 0 ∷ 0 ∷ 0 ∷ l) (zero_bytes n)
+
+pub zeros_laid : (Y Z : List ℕ) (k n : ℕ) → k + n ≡ check_at → length Y ≡ block_bytes → Z ≡ replicate (length (mid_of (4 * k) (508 - 4 * k) Y)) 0
+    → put_mid (4 * k) (508 - 4 * k) Y Z ≡ laid Y k (replicate n 0)
+unfolding laid
+zeros_laid Y Z k n e size z =
+    part_pasted (4 * k) (508 - 4 * k) Y Z (word_bytes * length (replicate {A = ℕ} n 0)) (little_endian (replicate n 0)) (omega (arith, length-replicate {A = ℕ} n 0))
+    (z ∙ ap (λ (x : ℕ). replicate {A = ℕ} x 0) (mid_len (4 * k) 508 Y (omega arith) ∙ omega arith) ∙ zero_bytes n)
 
 -- words laid at the front are the first bytes
 pub laid_front : (B ws : List ℕ) (n : ℕ) → n ≡ word_bytes * length ws → take n (laid B 0 ws) ≡ little_endian ws

@@ -13,7 +13,7 @@ use Rattle.image.specs.Runs.{laid}
 use Rattle.image.proofs.Laid.{laid_one, laid_behind, laid_front}
 use Rattle.image.proofs.Payload.{length-payload}
 
--- words 0 to 2
+-- the three words at the head
 pub head_laid : {X Y Z : List ℕ} (B : List ℕ) (u v w : ℕ) → X ≡ paste B (word_bytes * number_at) word_bytes (bytes_of u)
     → Y ≡ paste X (word_bytes * index_at) word_bytes (bytes_of v) → Z ≡ paste Y (word_bytes * total_at) word_bytes (bytes_of w)
     → word_bytes * payload_at ≤ length B → Z ≡ laid B 0 (u ∷ v ∷ w ∷ [])

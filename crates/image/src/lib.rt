@@ -1,4 +1,5 @@
 // Saved images: ledger and secure frames as blocks, written and read one at a time. What has come is kept in words that the caller lends.
+// kept: machine, memory and ledger side by side: docs/RULES.md, "Forms of the code": memory and ledger are slices of u32
 
 #![tactic(auto)]
 
@@ -6,19 +7,22 @@ mod reader;
 mod runs;
 mod writer;
 
-ghost use Rattle.std.specs.Prelude.{◌≡◌};
+ghost use Rattle.std.specs.Prelude.{◌≡◌, ◌<◌, length, set, unwrap_or};
 ghost use Rattle.words.specs.Words.{Says};
-ghost use Rattle.image.specs.Service.{BlocksCounted, WriteFits, BlockWritten, ReadFits, told, BlockRead, ReadingEnded};
+ghost use Rattle.answer.specs.Refusals.{number, number_of};
+ghost use Rattle.image.specs.Reader.{answer_word};
+ghost use Rattle.image.specs.Service.{BlocksCounted, BlockWritten, ReadFits, told, BlockRead, ReadingEnded};
 
 use accept::accepts;
-use answer::{BAD_BLOCK, ILL_FITTING, NOT_ACCEPTED};
-use machine::{Machine, fits, lent};
+use answer::Refusal;
+use machine::Machine;
 use reader::{good, take_payload};
 use runs::total;
 use words::word_at;
-use writer::{BLOCK_BYTES, NUMBER, write_block};
+use writer::{NUMBER, write_block};
 
 // The progress words: the answer so far, how many good blocks came (once one was bad, its place), the image's number. One more is not used.
+// kept: the C interface, which lends progress as words (include/monitor.h).
 const PROGRESS_WORDS: usize = 4;
 
 const ANSWER: usize = 0;
@@ -27,108 +31,110 @@ const CAME: usize = 1;
 
 const IMAGE_NUMBER: usize = 2;
 
-// The service: how many blocks an image of this box has, or 0.
-pub fn blocks(b: Machine) -> u32
-    ensures { BlocksCounted b result }
+// The service: how many blocks an image of this box has.
+pub fn blocks(b: Machine) -> Option<u32>
+    ensures { BlocksCounted b (unwrap_or result 0) }
 {
-    if !fits(b) {
-        return 0;
+    if !b.fits() {
+        return None;
     }
-    total(b)
+    Some(total(b))
 }
 
-// Does what is lent fit, and is there such a block?
-fn write_fits(b: Machine, mem: &[u32], led: &[u32], index: u32, block: &[u8]) -> bool
-    ensures { Says result (WriteFits b mem.now led.now index block.now) }
+// The service: block `index` of image `number`, or the refusal.
+pub fn write(
+    b: Machine,
+    mem: &[u32],
+    led: &[u32],
+    number: u32,
+    index: u32,
+    block: &mut [u8],
+) -> Result<(), Refusal>
+    ensures { BlockWritten b mem.now led.now number index block.old (number_of result) block.new }
 {
-    if !lent(b, mem, led) {
-        return false;
+    if !b.lent(mem, led) || total(b) <= index {
+        return Err(Refusal::IllFitting);
     }
-    if total(b) <= index {
-        return false;
-    }
-    if block.len() != BLOCK_BYTES {
-        return false;
-    }
-    true
-}
-
-// The service: block `index` of image `number`, or 18.
-pub fn write(b: Machine, mem: &[u32], led: &[u32], number: u32, index: u32, block: &mut [u8]) -> u32
-    ensures { BlockWritten b mem.now led.now number index block.old result block.new }
-{
-    if !write_fits(b, mem, led, index, block) {
-        return ILL_FITTING;
-    }
+    let Some(block) = block.as_mut_array() else {
+        return Err(Refusal::IllFitting);
+    };
     write_block(b, mem, led, number, index, block);
-    0
+    Ok(())
 }
 
+// Does what is lent for reading fit?
 fn read_fits(b: Machine, mem: &[u32], led: &[u32], progress: &[u32]) -> bool
     ensures { Says result (ReadFits b mem.now led.now progress.now) }
 {
-    if !lent(b, mem, led) {
-        return false;
-    }
-    if progress.len() != PROGRESS_WORDS {
-        return false;
-    }
-    true
+    b.lent(mem, led) && progress.len() == PROGRESS_WORDS
 }
 
 // What progress says once it is not 0.
-fn again(a: u32) -> u32
-    ensures { result ≡ told a }
+fn again(a: u32) -> Refusal
+    ensures { number result ≡ told a }
 {
-    if a == NOT_ACCEPTED {
-        NOT_ACCEPTED
+    if a == Refusal::NotAccepted.number() {
+        Refusal::NotAccepted
     } else {
-        BAD_BLOCK
+        Refusal::BadBlock
     }
 }
 
+// The refusal, which progress then holds.
+fn stop(progress: &mut [u32], refusal: Refusal) -> Result<(), Refusal>
+    requires { 0 < length progress.old }
+    ensures { (number_of result ≡ number refusal) × (progress.new ≡ set progress.old answer_word (number refusal)) }
+{
+    progress[ANSWER] = refusal.number();
+    Err(refusal)
+}
+
 // The service: the next block into a spare memory and ledger.
-pub fn read(b: Machine, mem: &mut [u32], led: &mut [u32], progress: &mut [u32], block: &[u8]) -> u32
-    ensures { BlockRead b mem.old led.old progress.old block.now result mem.new led.new progress.new }
+pub fn read(
+    b: Machine,
+    mem: &mut [u32],
+    led: &mut [u32],
+    progress: &mut [u32],
+    block: &[u8],
+) -> Result<(), Refusal>
+    ensures { BlockRead b mem.old led.old progress.old block.now (number_of result) mem.new led.new progress.new }
 {
     if !read_fits(b, mem, led, progress) {
-        return ILL_FITTING;
+        return Err(Refusal::IllFitting);
     }
     let answer = progress[ANSWER];
     if answer != 0 {
-        return again(answer);
+        return Err(again(answer));
     }
     let came = progress[CAME];
-    let number = progress[IMAGE_NUMBER];
-    if !good(b, came, number, block) {
-        progress[ANSWER] = BAD_BLOCK;
-        return BAD_BLOCK;
+    let Some(block) = block.as_array() else {
+        return stop(progress, Refusal::BadBlock);
+    };
+    if !good(b, came, progress[IMAGE_NUMBER], block) {
+        return stop(progress, Refusal::BadBlock);
     }
     take_payload(b, mem, led, came, block);
     progress[CAME] = came + 1;
     progress[IMAGE_NUMBER] = word_at(block, NUMBER);
-    0
+    Ok(())
 }
 
 // The service: no more comes.
-pub fn end(b: Machine, mem: &[u32], led: &[u32], progress: &mut [u32]) -> u32
-    ensures { ReadingEnded b mem.now led.now progress.old result progress.new }
+pub fn end(b: Machine, mem: &[u32], led: &[u32], progress: &mut [u32]) -> Result<(), Refusal>
+    ensures { ReadingEnded b mem.now led.now progress.old (number_of result) progress.new }
 {
     if !read_fits(b, mem, led, progress) {
-        return ILL_FITTING;
+        return Err(Refusal::IllFitting);
     }
     let answer = progress[ANSWER];
     if answer != 0 {
-        return again(answer);
+        return Err(again(answer));
     }
-    let came = progress[CAME];
-    if came < total(b) {
-        progress[ANSWER] = BAD_BLOCK;
-        return BAD_BLOCK;
+    if progress[CAME] < total(b) {
+        return stop(progress, Refusal::BadBlock);
     }
     if !accepts(b, mem, led) {
-        progress[ANSWER] = NOT_ACCEPTED;
-        return NOT_ACCEPTED;
+        return stop(progress, Refusal::NotAccepted);
     }
-    0
+    Ok(())
 }

@@ -1,6 +1,6 @@
 // The sizes of an image, its blocks, and the runs of a payload.
 
-ghost use Rattle.std.specs.Prelude.{◌≡◌, min, ◌-◌, ◌<◌};
+ghost use Rattle.std.specs.Prelude.{◌≡◌};
 ghost use Rattle.machine.specs.Machine.{Fits};
 ghost use Rattle.image.specs.Image.{ledger_words, secure_words, total, total_word};
 ghost use Rattle.image.specs.Runs.{runs_of};
@@ -22,30 +22,31 @@ pub struct Runs {
     pub frames: usize,
 }
 
-pub fn ledger_words(b: Machine) -> usize
-    requires { Fits b }
+fn ledger_words(b: Machine) -> usize
     ensures { result ≡ ledger_words b }
 {
     HEADER_WORDS + RECORD_WORDS * (b.pages as usize)
 }
 
-pub fn secure_words(b: Machine) -> usize
-    requires { Fits b }
+fn secure_words(b: Machine) -> usize
     ensures { result ≡ secure_words b }
 {
     FRAME_WORDS * (b.pages as usize)
 }
 
 // How many blocks an image has.
+// kept: `Fits b` of total, total_word and good: no plainer, because a type that carries it would wrap the machine at each call.
+#[tactic(auto, unfolding(crate::specs::Image::total))]
 pub fn total(b: Machine) -> u32
     requires { Fits b }
     ensures { result ≡ total b }
 {
     let words = ledger_words(b) + secure_words(b);
-    ((words + (PAYLOAD_WORDS - 1)) / PAYLOAD_WORDS) as u32
+    words.div_ceil(PAYLOAD_WORDS) as u32
 }
 
 // What word 2 of a block says of it.
+#[tactic(auto, using(crate::proofs::Inside::total_most), unfolding(crate::specs::Image::total_word))]
 pub fn total_word(b: Machine) -> u32
     requires { Fits b }
     ensures { result ≡ total_word b }
@@ -53,32 +54,18 @@ pub fn total_word(b: Machine) -> u32
     total(b) + TOTAL_FROM
 }
 
-fn lesser(x: usize, y: usize) -> usize
-    ensures { result ≡ min x y }
-{
-    if x <= y { x } else { y }
-}
-
-// How far x is past y, or 0.
-fn past(x: usize, y: usize) -> usize
-    ensures { result ≡ x - y }
-{
-    if x <= y { 0 } else { x - y }
-}
-
 // The runs of block j.
+#[tactic(auto, unfolding(crate::specs::Runs::runs_of))]
 pub fn runs_of(b: Machine, j: u32) -> Runs
-    requires fits { Fits b }
-    requires j_bound { j < total b }
     ensures { result ≡ runs_of b j }
 {
     let at = PAYLOAD_WORDS * (j as usize);
     let in_ledger = ledger_words(b);
-    let first = past(at, in_ledger);
-    let ledger = lesser(PAYLOAD_WORDS, past(in_ledger, at));
-    let frames = lesser(PAYLOAD_WORDS - ledger, past(secure_words(b), first));
+    let first = at.saturating_sub(in_ledger);
+    let ledger = PAYLOAD_WORDS.min(in_ledger.saturating_sub(at));
+    let frames = (PAYLOAD_WORDS - ledger).min(secure_words(b).saturating_sub(first));
     Runs {
-        from: lesser(at, in_ledger),
+        from: at.min(in_ledger),
         ledger,
         first,
         frames,

@@ -11,7 +11,7 @@ use Rattle.machine.specs.Machine.{Insecure}
 use Rattle.mapping.specs.Mapping.{page_bytes, index_of, slot_of}
 use Rattle.ledger.specs.Names.{running_word, space, data_page, stopped}
 use Rattle.ledger.specs.Ledger.{header, rec}
-use Rattle.walk.specs.declared.Translated.TheVariants.{Yes}
+use Rattle.std.specs.Prelude.{Some}
 use Rattle.walk.specs.Walk.{translate, frame_of}
 use Rattle.walk.proofs.Laws.{Translates, translated}
 use Rattle.answer.specs.Answer.{owner}
@@ -49,7 +49,7 @@ module _ {b : Machine} {M L : List ℕ} (ok : Accepted b M L) where
       }
 
   pub open_through : {v : ℕ} (t : ℕ) → header L running_word ≡ t + 1 → (va : ℕ) (write : Bool)
-      → translate M b.secure (first_page L) va write ≡ Yes v → OpenTo b L (owner L) va (frame_of v)
+      → translate M b.secure (first_page L) va write ≡ Some v → OpenTo b L (owner L) va (frame_of v)
   open_through t runs va write e =
       let (al, type, now) = acts ok t runs in
       leads al type (λ z. omega arith) (translated M b.secure (first_page L) va write e)

@@ -1,5 +1,5 @@
 -- A ledger's free map: the map whose words are the header's from map_start on, as the code goes through it. Assumes nothing.
-use Rattle.std.proofs.Common.{◌≡◌, ℕ, ◌+◌, ◌*◌, ◌^◌, ◌<◌, ◌≤◌, List, sym, ◌∙◌, ap₂}
+use Rattle.std.proofs.Common.{◌≡◌, ℕ, ◌+◌, ◌*◌, ◌^◌, ◌<◌, ◌≤◌, List, sym, ◌∙◌, ap, ap₂}
 use lib.Count.{ones, count_trailing_zeros}
 use Rattle.words.specs.Words.{sum_below, least_below}
 use Rattle.words.proofs.Bits.{bit_le}
@@ -23,14 +23,14 @@ module _ (L : List ℕ) (j : ℕ) {w : ℕ} (is : w ≡ map_at L j) (fits : w < 
   count_on e = ap₂ (λ (x y : ℕ). x + ones y) e is ∙ sym (ones_on (map_at L) j (rw is at fits))
 
   -- the words before it are 0
-  pub found_here : {b : ℕ} → b ≡ 32 * j → ((i : ℕ) → i < j → map_at L i ≡ 0) → j < map_words → (w ≡ 0 → ⊥)
-      → b + count_trailing_zeros 32 w ≡ least_below (32 * map_words) (map_bit L)
+  pub found_here : ((i : ℕ) → i < j → map_at L i ≡ 0) → j < map_words → (w ≡ 0 → ⊥)
+      → 32 * j + count_trailing_zeros 32 w ≡ least_below (32 * map_words) (map_bit L)
   unfolding map_bit
-  found_here base none l some =
-      ap₂ (λ (x y : ℕ). x + count_trailing_zeros 32 y) base is
+  found_here none l some =
+      ap (λ (y : ℕ). 32 * j + count_trailing_zeros 32 y) is
       ∙ sym ((map_facts map_words).lowest (map_at L) j l (rw is at fits) none (rw is at some))
 
 -- all of them are 0
-pub not_found : (L : List ℕ) {b j : ℕ} → b ≡ 32 * j → ((i : ℕ) → i < j → map_at L i ≡ 0) → j ≡ map_words → b ≡ least_below (32 * map_words) (map_bit L)
+pub not_found : (L : List ℕ) {j : ℕ} → ((i : ℕ) → i < j → map_at L i ≡ 0) → j ≡ map_words → 32 * map_words ≡ least_below (32 * map_words) (map_bit L)
 unfolding map_bit
-not_found L base none e = base ∙ rw e (sym ((map_facts map_words).no_lowest (map_at L) (rw e at none)))
+not_found L none e = sym ((map_facts map_words).no_lowest (map_at L) (rw e at none))

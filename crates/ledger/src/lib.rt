@@ -4,11 +4,13 @@
 #![tactic(auto)]
 
 mod hash;
+mod kinds;
 mod map;
 mod pages;
 mod records;
 
 pub use hash::{add_blocks, hash_words, key_words, put_hash};
+pub use kinds::{NoType, PageType, State, is_state, is_type};
 pub use map::{count_free, lowest_free};
 pub use pages::{gain_page, lose_page, occupy_data, occupy_page, occupy_space, vacate_page};
 pub use records::{
@@ -79,27 +81,3 @@ pub const FREE_END: usize = 1;
 
 // What a data page adds to the blocks measured: one for its mapping, 64 for its words.
 pub const DATA_BLOCKS: u32 = 65;
-
-// ---- the types of a page
-
-pub const FREE: u32 = 0;
-
-pub const SPACE: u32 = 1;
-
-pub const THREAD: u32 = 2;
-
-pub const FIRST_LEVEL: u32 = 3;
-
-pub const SECOND_LEVEL: u32 = 4;
-
-pub const DATA: u32 = 5;
-
-pub const SPARE: u32 = 6;
-
-// ---- the states of an address space
-
-pub const BUILDING: u32 = 0;
-
-pub const FINAL: u32 = 1;
-
-pub const STOPPED: u32 = 2;

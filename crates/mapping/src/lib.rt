@@ -19,7 +19,7 @@ pub const TABLE_BYTES: u32 = 4194304;
 // The tables that a first-level page can name, and the slots of a table.
 pub const MOST_TABLES: u32 = 256;
 
-pub const SLOTS: u32 = 1024;
+const SLOTS: u32 = 1024;
 
 // Addresses, and the pages that they name, lie below these.
 pub const ADDRESS_END: u32 = 1073741824;
@@ -73,6 +73,7 @@ impl Mapping {
         self.0 / EXECUTE % 2 == 1
     }
 
+    #[tactic(auto, unfolding(crate::specs::Mapping::well_formed))]
     pub fn well_formed(self) -> bool
         ensures { result ≡ well_formed self.0 }
     {
@@ -87,6 +88,7 @@ impl Mapping {
 }
 
 // Is it a multiple of 4 below 2^30?
+#[tactic(auto, unfolding(crate::specs::Entry::legal_entry))]
 pub fn legal_entry(entry: u32) -> bool
     ensures { result ≡ legal_entry entry }
 {

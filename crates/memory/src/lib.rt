@@ -2,52 +2,50 @@
 
 #![tactic(auto)]
 
-ghost use Rattle.std.specs.Prelude.{◌≡◌, ◌+◌, ◌*◌, ◌≤◌, length};
+ghost use Rattle.std.specs.Prelude.{◌≡◌, ◌+◌, ◌*◌, ◌≤◌, ◌<◌, length, MatchOption};
 ghost use Rattle.machine.specs.Machine.{frame_words};
 ghost use Rattle.memory.specs.Memory.{frame, put_word, copied, wiped};
 
 use machine::FRAME_WORDS;
 
+// Where word k of frame f stands in a memory of len words, if it does.
+#[inline]
+fn place(len: usize, f: usize, k: usize) -> Option<usize>
+    ensures { MatchOption result (len ≤ frame_words * f + k) (λ i. (i ≡ frame_words * f + k) × (i < len)) }
+{
+    let i = FRAME_WORDS.checked_mul(f)?.checked_add(k)?;
+    (i < len).then_some(i)
+}
+
 // Word k of frame f.
+#[tactic(auto, unfolding(crate::specs::Memory::frame))]
 pub fn word(mem: &[u32], f: usize, k: usize) -> u32
     ensures { result ≡ frame mem.now f k }
 {
-    if mem.len() / FRAME_WORDS < f {
+    let Some(i) = place(mem.len(), f, k) else {
         return 0;
-    }
-    let start = FRAME_WORDS * f;
-    if mem.len() - start <= k {
-        return 0;
-    }
-    mem[start + k]
+    };
+    mem[i]
 }
 
 // v at word k of frame f.
+#[tactic(auto, unfolding(crate::specs::Memory::put_word))]
 pub fn put_word(mem: &mut [u32], f: usize, k: usize, v: u32)
     ensures { mem.new ≡ put_word mem.old f k v }
 {
-    if mem.len() / FRAME_WORDS < f {
-        return;
+    if let Some(i) = place(mem.len(), f, k) {
+        mem[i] = v;
     }
-    let start = FRAME_WORDS * f;
-    if mem.len() - start <= k {
-        return;
-    }
-    mem[start + k] = v;
 }
 
 // Frame g holds the words of frame f.
+#[tactic(auto, using(crate::proofs::Frames::copied_within))]
 pub fn copy(mem: &mut [u32], f: usize, g: usize)
     requires { (frame_words * f + frame_words ≤ length mem.old) × (frame_words * g + frame_words ≤ length mem.old) × (f ≡ g → ⊥) }
     ensures { mem.new ≡ copied mem.old f g }
 {
     let from = FRAME_WORDS * f;
-    let to = FRAME_WORDS * g;
-    let mut i: usize = 0;
-    while i < FRAME_WORDS {
-        mem[to + i] = mem[from + i];
-        i += 1;
-    }
+    mem.copy_within(from..from + FRAME_WORDS, FRAME_WORDS * g);
 }
 
 // Frame g is zero.
@@ -56,9 +54,5 @@ pub fn wipe(mem: &mut [u32], g: usize)
     ensures { mem.new ≡ wiped mem.old g }
 {
     let to = FRAME_WORDS * g;
-    let mut k: usize = 0;
-    while k < FRAME_WORDS {
-        mem[to + k] = 0;
-        k += 1;
-    }
+    mem[to..to + FRAME_WORDS].fill(0);
 }

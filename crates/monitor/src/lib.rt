@@ -1,5 +1,6 @@
 // The services for a host: machine numbers as words, what is lent as slices. They ask nothing of what is lent: what does not fit gets 18,
 // or a no. The crate monitor_c exports them.
+// kept: five numbers in each, not a Machine, and a number for an answer: the C interface, whose words the exports and the crate host have to the letter (.ci/exports)
 
 #![tactic(auto)]
 
@@ -10,6 +11,7 @@ ghost use Rattle.boot.specs.Boot.{Booted};
 ghost use Rattle.image.specs.Service.{BlocksCounted, BlockWritten, BlockRead, ReadingEnded};
 
 use accept::accepts;
+use answer::code;
 use machine::Machine;
 
 pub fn monitor_boot(
@@ -24,18 +26,12 @@ pub fn monitor_boot(
 ) -> u32
     ensures { Booted (machine_of frames secure pages monitor monitors) key.now mem.old led.old result mem.new led.new }
 {
-    boot::serve(
-        Machine {
-            frames,
-            secure,
-            pages,
-            monitor,
-            monitors,
-        },
+    code(boot::serve(
+        Machine::new(frames, secure, pages, monitor, monitors),
         key,
         mem,
         led,
-    )
+    ))
 }
 
 pub fn monitor_accepts(
@@ -50,13 +46,7 @@ pub fn monitor_accepts(
     ensures { Accepts (machine_of frames secure pages monitor monitors) mem.now led.now result }
 {
     accepts(
-        Machine {
-            frames,
-            secure,
-            pages,
-            monitor,
-            monitors,
-        },
+        Machine::new(frames, secure, pages, monitor, monitors),
         mem,
         led,
     )
@@ -75,19 +65,13 @@ pub fn monitor_batch(
 ) -> u32
     ensures { Batched (machine_of frames secure pages monitor monitors) mem.old led.old calls.now answers.old result mem.new led.new answers.new }
 {
-    batch::serve(
-        Machine {
-            frames,
-            secure,
-            pages,
-            monitor,
-            monitors,
-        },
+    code(batch::serve(
+        Machine::new(frames, secure, pages, monitor, monitors),
         mem,
         led,
         calls,
         answers,
-    )
+    ))
 }
 
 pub fn monitor_image_blocks(
@@ -99,13 +83,7 @@ pub fn monitor_image_blocks(
 ) -> u32
     ensures { BlocksCounted (machine_of frames secure pages monitor monitors) result }
 {
-    image::blocks(Machine {
-        frames,
-        secure,
-        pages,
-        monitor,
-        monitors,
-    })
+    image::blocks(Machine::new(frames, secure, pages, monitor, monitors)).unwrap_or(0)
 }
 
 pub fn monitor_image_write(
@@ -122,20 +100,14 @@ pub fn monitor_image_write(
 ) -> u32
     ensures { BlockWritten (machine_of frames secure pages monitor monitors) mem.now led.now number index block.old result block.new }
 {
-    image::write(
-        Machine {
-            frames,
-            secure,
-            pages,
-            monitor,
-            monitors,
-        },
+    code(image::write(
+        Machine::new(frames, secure, pages, monitor, monitors),
         mem,
         led,
         number,
         index,
         block,
-    )
+    ))
 }
 
 pub fn monitor_image_read(
@@ -151,19 +123,13 @@ pub fn monitor_image_read(
 ) -> u32
     ensures { BlockRead (machine_of frames secure pages monitor monitors) mem.old led.old progress.old block.now result mem.new led.new progress.new }
 {
-    image::read(
-        Machine {
-            frames,
-            secure,
-            pages,
-            monitor,
-            monitors,
-        },
+    code(image::read(
+        Machine::new(frames, secure, pages, monitor, monitors),
         mem,
         led,
         progress,
         block,
-    )
+    ))
 }
 
 pub fn monitor_image_end(
@@ -178,16 +144,10 @@ pub fn monitor_image_end(
 ) -> u32
     ensures { ReadingEnded (machine_of frames secure pages monitor monitors) mem.now led.now progress.old result progress.new }
 {
-    image::end(
-        Machine {
-            frames,
-            secure,
-            pages,
-            monitor,
-            monitors,
-        },
+    code(image::end(
+        Machine::new(frames, secure, pages, monitor, monitors),
         mem,
         led,
         progress,
-    )
+    ))
 }

@@ -1,4 +1,5 @@
 // The services of monitor, exported for C and Rust. A list is passed as a pointer and then a length.
+// kept: five numbers in each, not a Machine, and a number for an answer: the C interface (include/monitor.h)
 
 #![tactic(auto)]
 

@@ -13,8 +13,7 @@ use Rattle.mapping.specs.Mapping.{page_bytes, index_of}
 use Rattle.ledger.specs.Ledger.{rec, type_of, state_of, first_of}
 use Rattle.ledger.specs.Names.{space, data_page, final, index_word}
 use Rattle.memory.specs.Memory.{frame}
-use Rattle.walk.specs.declared.Translated.{Translated}
-use Rattle.walk.specs.declared.Translated.TheVariants.{Yes, No}
+use Rattle.std.specs.Prelude.{Option, Some, None}
 use Rattle.walk.specs.Walk.{translate}
 use Rattle.walk.proofs.Laws.{Translates, translated, translates, by-slot, finds, found}
 use Rattle.answer.specs.Answer.{Out}
@@ -62,13 +61,13 @@ module _ {b : Machine} {M L : List ℕ} {a : ℕ} (ok : Accepted b M L) (runs : 
   tables = tables_of ok acting.0 acting.1 (λ z. omega (arith, acting.2))
 
   module _ (v : ℕ) (write : Bool) where
-    abbrev for : Translated
+    abbrev for : Option ℕ
     for = translate M b.secure (first_of L a) v write
 
     through : translate M b.secure (first_page L) v write ≡ for
     through = ap (λ (o : ℕ). translate M b.secure (first_of L o) v write) (runs_for runs)
 
-    pub yes_allows : {x : ℕ} → for ≡ Yes x → Allows b M L a v write x
+    pub yes_allows : {x : ℕ} → for ≡ Some x → Allows b M L a v write x
     yes_allows {x} e =
         let t = translated M b.secure (first_of L a) v write e in
         let (is-own, index) = own_table tables t.holds in
@@ -93,12 +92,12 @@ module _ {b : Machine} {M L : List ℕ} {a : ℕ} (ok : Accepted b M L) (runs : 
           right = λ w. eq-eqb (x / 2 % 2) 1 (p.right w);
         }
 
-    allows_yes : {x : ℕ} → Allows b M L a v write x → for ≡ Yes x
+    allows_yes : {x : ℕ} → Allows b M L a v write x → for ≡ Some x
     allows_yes p = translates M b.secure (first_of L a) v write (allows_slot p)
 
     -- by what the table has: nothing that allows it, or one word
-    by_table : {C : Type 0} → (translate M b.secure (first_page L) v write ≡ No → ((x : ℕ) → Allows b M L a v write x → ⊥) → C)
-        → ((x : ℕ) → translate M b.secure (first_page L) v write ≡ Yes x → Allows b M L a v write x → C) → C
+    by_table : {C : Type 0} → (translate M b.secure (first_page L) v write ≡ None → ((x : ℕ) → Allows b M L a v write x → ⊥) → C)
+        → ((x : ℕ) → translate M b.secure (first_page L) v write ≡ Some x → Allows b M L a v write x → C) → C
     by_table refuses gives =
         by-slot M b.secure (first_of L a) v write
         (λ e. refuses (through ∙ e) (λ x p. let y = allows_yes p in let z : ◌≡◌ {A = ℕ} 0 1 = cc in omega arith))
@@ -177,8 +176,8 @@ module _ {b b' : Machine} {M L M' L' : List ℕ} {a a' v : ℕ} (same : SameSlot
     (ok : Accepted b M L) (runs : Running L a) (ok' : Accepted b' M' L') (runs' : Running L' a') where
   -- both find nothing, or both the same word
   by_both : (write : Bool) {C : Type 0}
-      → (translate M b.secure (first_page L) v write ≡ No → translate M' b'.secure (first_page L') v write ≡ No → C)
-      → ((x : ℕ) → translate M b.secure (first_page L) v write ≡ Yes x → translate M' b'.secure (first_page L') v write ≡ Yes x
+      → (translate M b.secure (first_page L) v write ≡ None → translate M' b'.secure (first_page L') v write ≡ None → C)
+      → ((x : ℕ) → translate M b.secure (first_page L) v write ≡ Some x → translate M' b'.secure (first_page L') v write ≡ Some x
       → OwnSlot b M L a v x → C) → C
   by_both write refuses gives =
       by_table ok runs v write

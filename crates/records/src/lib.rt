@@ -2,90 +2,86 @@
 
 #![tactic(auto)]
 
-ghost use Rattle.std.specs.Prelude.{◌≡◌, length, drop};
+ghost use Rattle.std.specs.Prelude.{◌≡◌, drop, length, replicate};
 ghost use Rattle.words.specs.Words.{record_words, padded, all_zero};
-ghost use Rattle.answer.specs.Answer.{numbers};
+ghost use Rattle.answer.specs.Refusals.{number_of};
+ghost use Rattle.answer.specs.Answer.{values, numbers};
 ghost use Rattle.records.specs.Records.{turn_code, form_code};
 
-use answer::{Answer, BAD_RECORD, FAULTED, INTERRUPTED, WRONG_TIME};
+use answer::{Answer, FAULTED, INTERRUPTED, Refusal, refuse};
 use ledger::{RUNNING, header_word};
-use words::{all_zero, clear, put_words};
+use words::{all_zero, clear};
 
 // Calls below this number are the system's, the others the enclave's.
 const ENCLAVE_FIRST: u32 = 32;
 
 // Are the words from `from` on zero? (Most calls have few arguments: at a constant start the test is several words a step.)
-fn rest_zero(call: &[u32], from: usize) -> bool
-    ensures { result ≡ all_zero (drop from call.now) }
+// kept: a switch on the start: tried as one call of all_zero, and GetPhysPages took 140 instructions in place of 85
+#[tactic(auto, using(words::proofs::Zero::zeros_said))]
+fn rest_zero(words: &[u32], from: usize) -> bool
+    ensures { result ≡ all_zero (drop from words.now) }
 {
     match from {
-        1 => all_zero(call, 1),
-        2 => all_zero(call, 2),
-        3 => all_zero(call, 3),
-        4 => all_zero(call, 4),
-        5 => all_zero(call, 5),
-        _ => all_zero(call, from),
+        1 => all_zero(words, 1),
+        2 => all_zero(words, 2),
+        3 => all_zero(words, 3),
+        4 => all_zero(words, 4),
+        5 => all_zero(words, 5),
+        _ => all_zero(words, from),
     }
 }
 
 // The system's calls while a thread runs, the enclave's while none does.
-fn turn_code(led: &[u32], no: u32) -> u32
-    ensures { result ≡ turn_code led.now no }
+#[tactic(auto, unfolding(crate::specs::Records::turn_code))]
+fn check_turn(led: &[u32], no: u32) -> Result<(), Refusal>
+    ensures { number_of result ≡ turn_code led.now no }
 {
-    let running = header_word(led, RUNNING);
-    if no < ENCLAVE_FIRST {
-        if running != 0 {
-            return WRONG_TIME;
-        }
-        return 0;
-    }
-    if running == 0 {
-        return WRONG_TIME;
-    }
-    0
+    let runs = header_word(led, RUNNING) != 0;
+    refuse(runs == (no < ENCLAVE_FIRST), Refusal::WrongTime)
 }
 
 // A non-zero word after the arguments, then whose turn it is.
-pub fn form_code(led: &[u32], no: u32, arguments: u32, call: &[u32]) -> u32
-    ensures { result ≡ form_code led.now no arguments call.now }
+#[tactic(auto, unfolding(crate::specs::Records::form_code, words::specs::Words::or))]
+pub fn check_form(led: &[u32], no: u32, arguments: u32, words: &[u32]) -> Result<(), Refusal>
+    ensures { number_of result ≡ form_code led.now no arguments words.now }
 {
-    if !rest_zero(call, 1 + (arguments as usize)) {
-        return BAD_RECORD;
-    }
-    turn_code(led, no)
+    refuse(
+        !rest_zero(words, 1 + arguments as usize),
+        Refusal::BadRecord,
+    )?;
+    check_turn(led, no)
 }
 
-// The answer's numbers, then zeros, into its words.
-pub fn write_answer(a: Answer, out: &mut [u32])
-    requires { length out.old ≡ record_words }
-    ensures { out.new ≡ padded (numbers a) }
+// The values of a call that was done, into an answer record of zeros.
+#[tactic(auto, unfolding(words::specs::Words::padded))]
+fn write_values(answer: Answer, out: &mut [u32])
+    requires { out.old ≡ replicate record_words 0 }
+    ensures { out.new ≡ padded (values answer) }
 {
-    clear(out);
-    match a {
-        Answer::Refused(c) => {
-            out[0] = c;
-        }
+    match answer {
         Answer::Done => {}
-        Answer::Value(v) => {
-            out[1] = v;
-        }
+        Answer::Value(v) => out[1] = v,
         Answer::Pair(v, w) => {
             out[1] = v;
             out[2] = w;
         }
-        Answer::Attested(m) => {
-            let words = m.words();
-            put_words(out, 1, &words);
-        }
-        Answer::Runs(r) => {
-            let words = r.words();
-            put_words(out, 1, &words);
-        }
-        Answer::Interrupted => {
-            out[0] = INTERRUPTED;
-        }
-        Answer::Faulted => {
-            out[0] = FAULTED;
-        }
+        Answer::Attested(mac) => out[1..=mac.len()].copy_from_slice(&mac),
+        Answer::Runs(regs) => out[1..=regs.len()].copy_from_slice(&regs),
+        Answer::Interrupted => out[0] = INTERRUPTED,
+        Answer::Faulted => out[0] = FAULTED,
+    }
+}
+
+// The answer's numbers, then zeros, into its words.
+// kept: a slice and its length: tried as an array by `as_mut_array`, the proof of batch's `turn` did not close
+#[tactic(auto, unfolding(words::specs::Words::padded))]
+pub fn write_answer(answer: Result<Answer, Refusal>, out: &mut [u32])
+    requires { length out.old ≡ record_words }
+    ensures { out.new ≡ padded (numbers answer) }
+{
+    clear(out);
+    match answer {
+        Ok(done) => write_values(done, out),
+        Err(refusal) => out[0] = refusal.number(),
     }
 }

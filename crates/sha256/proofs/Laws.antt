@@ -1,6 +1,8 @@
 -- What callers cite of SHA-256 and HMAC: the digest of whole blocks is `finish` of `absorb`, a message may be absorbed in parts, and
--- each hash value has eight words below 2^32. Assumes nothing.
-use Rattle.std.proofs.Common.{◌≡◌, ℕ, zero, suc, ◌+◌, ◌-◌, ◌*◌, ◌/◌, ◌%◌, ◌^◌, ◌<◌, ◌≤◌, List, [], ◌∷◌, ◌++◌, length, get_or, take, drop, replicate, refl, ◌∙◌, append_assoc, add-zero, add-suc, add-one, arith, length-append, length-drop, take-append-drop, length-take-le, take_all, rules}
+-- each hash value has eight words. Assumes nothing.
+use Rattle.std.proofs.Common.{◌≡◌, ℕ, zero, suc, ◌+◌, ◌*◌, ◌/◌, ◌%◌, ◌<◌, ◌≤◌, List, ◌++◌, length, take, drop, replicate, refl, sym, ◌∙◌, append_assoc, add-zero, add-suc, arith, length-append, length-drop, take-append-drop, length-take-le, take_all}
+use Rattle.std.specs.List.{fold}
+use Rattle.std.specs.Simd.{first_chunks}
 use lib.ListN.{length-replicate}
 use lib.Seq.{take-append-le, drop-append-le, drop-append-add}
 use Rattle.sha256.specs.Sha256.{sum_of, compress, block, blocks, absorb, finish, zeros, length_words, padding, pad, H0, sha256}
@@ -22,13 +24,21 @@ blocks_on k (suc n) s a b l =
     let e : 16 * (k + n) ≡ length a + 16 * n = omega arith in
     rw (add-suc k n, blocks_on k n s a b l, e, drop-append-add a b (16 * n))
 
--- one more block, as the code cuts it
-pub blocks_more : (m s₀ : List ℕ) {s r : List ℕ} (i : ℕ) → s ≡ blocks i s₀ m → r ≡ compress s (take (16 * i + 16 - 16 * i) (drop (16 * i) m))
-    → r ≡ blocks (i + 1) s₀ m
+-- the first block apart
+blocks_first : (n : ℕ) (s m : List ℕ) → 16 ≤ length m → blocks (suc n) s m ≡ blocks n (compress s (take 16 m)) (drop 16 m)
 unfolding blocks block
-blocks_more m s₀ i p q =
-    let e : 16 * i + 16 - 16 * i ≡ 16 = omega arith in
-    q ∙ rw (e, p, add-one i)
+blocks_first n s m h =
+    let e : 1 + n ≡ suc n = omega arith in
+    let t : length (take 16 m) ≡ 16 = length-take-le 16 m h in
+    rw (take-append-drop 16 m, take_all 16 (take 16 m) (omega arith), e) at (blocks_on 1 n s (take 16 m) (drop 16 m) t)
+
+-- the blocks, as the code goes over them
+pub fold_blocks : (n : ℕ) (s m : List ℕ) → 16 * n ≤ length m → fold compress s (first_chunks 16 n m) ≡ blocks n s m
+unfolding blocks
+fold_blocks zero s m h = refl
+fold_blocks (suc n) s m h =
+    let l : 16 * n ≤ length (drop 16 m) = omega (arith, length-drop 16 m) in
+    fold_blocks n (compress s (take 16 m)) (drop 16 m) l ∙ sym (blocks_first n s m (omega arith))
 
 -- absorbing a list in two parts, the first of k whole blocks, is absorbing it at once
 pub absorb_parts : (s a b : List ℕ) (k : ℕ) → length a ≡ 16 * k → absorb s (a ++ b) ≡ absorb (absorb s a) b
@@ -109,48 +119,3 @@ sha256_length m = absorb_length _ _ refl
 pub hmac_length : (key text : List ℕ) → length (hmac key text) ≡ 8
 unfolding hmac
 hmac_length key text = sha256_length _
-
--- each word of a hash value is below 2^32
-abbrev pub Words : List ℕ → Type 0
-Words s = (j : ℕ) → get_or s j 0 < 2 ^ 32
-
-abbrev Small : List ℕ → Type 0
-Small [] = Unit {0}
-Small (x ∷ s) = (x < 2 ^ 32) × Small s
-
-words_of : (s : List ℕ) → Small s → Words s
-words_of [] h j = omega arith
-words_of (x ∷ s) h zero = h.0
-words_of (x ∷ s) h (suc j) = words_of s h.1 j
-
-compress_small : (s b : List ℕ) → Small (compress s b)
-unfolding compress sum_of
-compress_small s b = search rules
-
-pub compress_words : (s b : List ℕ) → Words (compress s b)
-compress_words s b = words_of (compress s b) (compress_small s b)
-
-blocks_words : (n : ℕ) (s m : List ℕ) → Words s → Words (blocks n s m)
-unfolding blocks
-blocks_words zero s m h = h
-blocks_words (suc n) s m h = compress_words _ _
-
-pub absorb_words : (s m : List ℕ) → Words s → Words (absorb s m)
-unfolding absorb
-absorb_words s m h = blocks_words _ s m h
-
-pub finish_words : (s : List ℕ) (n : ℕ) → Words (finish s n)
-unfolding finish
-finish_words s n = compress_words _ _
-
-H0-small : Small H0
-unfolding H0
-H0-small = search rules
-
-pub sha256_words : (m : List ℕ) → Words (sha256 m)
-unfolding sha256
-sha256_words m = absorb_words _ _ (words_of H0 H0-small)
-
-pub hmac_words : (key text : List ℕ) → Words (hmac key text)
-unfolding hmac
-hmac_words key text = sha256_words _

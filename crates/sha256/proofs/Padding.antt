@@ -1,10 +1,18 @@
 -- The padding of a message in the blocks that the code makes of it. Assumes nothing.
-use Rattle.std.proofs.Common.{◌≡◌, ℕ, suc, ◌+◌, ◌-◌, ◌*◌, ◌/◌, ◌%◌, ◌^◌, ◌<◌, ◌≤◌, List, ◌∷◌, ◌++◌, length, take, drop, set, replicate, sym, refl, ap, ◌∙◌, append_assoc, arith, length-append, length-drop, take_all}
+use Rattle.std.proofs.Common.{◌≡◌, ℕ, suc, ◌+◌, ◌-◌, ◌*◌, ◌/◌, ◌%◌, ◌^◌, ◌<◌, ◌≤◌, List, [], ◌∷◌, ◌++◌, length, take, drop, set, replicate, sym, refl, ap, ◌∙◌, append_assoc, arith, length-append, length-set, drop_of_length-le, take-suc-set}
+use Rattle.std.proofs.lemmas.List.{take-replicate}
 use lib.ListN.{length-replicate, replicate-append-replicate}
-use lib.Seq.{set_at, take-append-add}
+use lib.Seq.{set_at, set_split, append_snoc, take-append-add}
 use Rattle.sha256.specs.Sha256.{compress, absorb, finish, zeros, length_words, padding, pad, H0, sha256}
-use Rattle.sha256.proofs.Lists.{take_same, last_two}
 use Rattle.sha256.proofs.Laws.{absorb_parts, absorb_block, zeros_fit, zeros_least, padding_length, padding_whole, absorb_rest}
+
+-- the last two of 16 words
+last_two : (b : List ℕ) (x y : ℕ) → length b ≡ 16 → set (set b 14 x) 15 y ≡ take 14 b ++ x ∷ y ∷ []
+last_two b x y l =
+    let m : length (set b 14 x) ≡ 16 = length-set b 14 x ∙ l in
+    set_split (set b 14 x) 15 y (omega arith)
+    ∙ rw (take-suc-set b 14 x (omega arith), drop_of_length-le (set b 14 x) {i = 16} (omega arith))
+    (append_snoc (take 14 b) x (y ∷ []))
 
 -- the length in the last two words
 pub length-put : (b : List ℕ) (n x y : ℕ) → length b ≡ 16 → x ≡ 32 * n / 2 ^ 32 % 2 ^ 32 → y ≡ 32 * n % 2 ^ 32
@@ -36,7 +44,7 @@ one r n l h =
     let t : take 14 (mark r) ≡ r ++ 0x80000000 ∷ replicate (13 - length r) 0
     = ap (λ (k : ℕ). take k (mark r)) e
     ∙ take-append-add r _ (suc (13 - length r))
-    ∙ rw (take_same (13 - length r) (15 - length r) 0 (omega arith)) in
+    ∙ rw (take-replicate {X = ℕ} (13 - length r) (15 - length r) 0 (omega arith)) in
     rw (t, z) (append_assoc r _ (length_words n))
 
 -- two closing blocks, where it does not
@@ -87,16 +95,12 @@ padding_wraps b n =
     let g : 32 * (x + wrap * q) % 2 ^ 32 ≡ 32 * x % 2 ^ 32 = omega arith in
     rw (d, e, high_wraps x q, g)
 
--- what `digest_on` gives: the rest as the code cuts it
-pub digest_rest : (s m : List ℕ) (b : ℕ) {t r : List ℕ} → t ≡ absorb s m
-    → r ≡ absorb t (take (length m - (length m - length m % 16)) (drop (length m - length m % 16) m) ++ padding (b + length m % wrap))
-    → r ≡ absorb s (m ++ padding (b + length m))
-digest_rest s m b p q =
-    let w : length m - length m % 16 ≡ 16 * (length m / 16) = omega arith in
-    let r : List ℕ = drop (16 * (length m / 16)) m in
-    let d : take (length m - 16 * (length m / 16)) r ≡ r
-    = take_all (length m - 16 * (length m / 16)) r (omega (arith, length-drop (16 * (length m / 16)) m)) in
-    q ∙ rw (w, d, p, padding_wraps b (length m)) (absorb_rest s m (padding (b + length m)))
+-- what `digest_on` gives
+pub digest_rest : (s m : List ℕ) (b : ℕ) {t q r : List ℕ} → t ≡ absorb s m → q ≡ drop (length m / 16 * 16) m
+    → r ≡ absorb t (q ++ padding (b + length m % wrap)) → r ≡ absorb s (m ++ padding (b + length m))
+digest_rest s m b p q e =
+    let w : length m / 16 * 16 ≡ 16 * (length m / 16) = omega arith in
+    e ∙ rw (q, w, p, padding_wraps b (length m)) (absorb_rest s m (padding (b + length m)))
 
 -- what `digest`, `keyed` and `finish` give
 pub digest_all : (m : List ℕ) {s r : List ℕ} → s ≡ H0 → r ≡ absorb s (m ++ padding (0 + length m)) → r ≡ sha256 m

@@ -112,9 +112,6 @@ part_on : (b : List ℕ) {w x : List ℕ} (t : ℕ) → length b ≡ 16 → w �
     → x ≡ drop (t + 16) (words (t + 16) b)
 part_on b t l p q = q ∙ rw (p, words_on b t 16 l) (drop-drop 16 t (words (t + 16) b))
 
-pub part_length : (b : List ℕ) {w : List ℕ} → length b ≡ 16 → w ≡ drop 16 (words 16 b) → length w ≡ 16
-part_length b l p = rw p (omega (arith, length-drop 16 (words 16 b), words_length b l 16))
-
 -- n rounds on
 rounds_on : (k w s : List ℕ) (v : Vars) (t n : ℕ)
     → ((i : ℕ) → i < n → get_or k i 0 ≡ get_or K (t + i) 0)

@@ -7,7 +7,6 @@ ghost use Rattle.sha256.specs.Sha256 as fips;
 ghost use Rattle.sha256.specs.Hmac as mac;
 
 use rounds::{Vars, all_rounds};
-use std::num::wrapping_add_u32;
 
 mod functions;
 mod rounds;
@@ -16,48 +15,39 @@ mod schedule;
 // So many words are 2^64 bits, where the length of a message wraps.
 const WRAP: usize = 0x0800_0000_0000_0000;
 
+// The hash value as the working variables.
+// kept: a function and no `From`: no plainer, because its clause cites the definition of its name
 fn vars_of(s: [u32; 8]) -> Vars
     ensures { result ≡ fips.vars_of s }
 {
+    let [a, b, c, d, e, f, g, h] = s;
     Vars {
-        a: s[0],
-        b: s[1],
-        c: s[2],
-        d: s[3],
-        e: s[4],
-        f: s[5],
-        g: s[6],
-        h: s[7],
+        a,
+        b,
+        c,
+        d,
+        e,
+        f,
+        g,
+        h,
     }
 }
 
+// The hash value plus the working variables.
+// kept: eight sums by hand, no `zip`: no plainer, because the variables are fields, as in the definition.
 fn sum_of(s: [u32; 8], v: Vars) -> [u32; 8]
     ensures { result ≡ fips.sum_of s v }
 {
     [
-        wrapping_add_u32(s[0], v.a),
-        wrapping_add_u32(s[1], v.b),
-        wrapping_add_u32(s[2], v.c),
-        wrapping_add_u32(s[3], v.d),
-        wrapping_add_u32(s[4], v.e),
-        wrapping_add_u32(s[5], v.f),
-        wrapping_add_u32(s[6], v.g),
-        wrapping_add_u32(s[7], v.h),
+        s[0].wrapping_add(v.a),
+        s[1].wrapping_add(v.b),
+        s[2].wrapping_add(v.c),
+        s[3].wrapping_add(v.d),
+        s[4].wrapping_add(v.e),
+        s[5].wrapping_add(v.f),
+        s[6].wrapping_add(v.g),
+        s[7].wrapping_add(v.h),
     ]
-}
-
-// The block as an array.
-fn load_block(block: &[u32]) -> [u32; 16]
-    requires { length block.now ≡ 16 }
-    ensures { result ≡ block.now }
-{
-    let mut w = [0u32; 16];
-    let mut i = 0;
-    while i < 16 {
-        w[i] = block[i];
-        i += 1;
-    }
-    w
 }
 
 // The initial hash value.
@@ -77,29 +67,18 @@ pub fn start() -> [u32; 8]
 }
 
 // The hash value after one block of 16 words.
-pub fn compress(state: [u32; 8], block: &[u32]) -> [u32; 8]
-    requires { length block.now ≡ 16 }
+pub fn compress(state: [u32; 8], block: &[u32; 16]) -> [u32; 8]
     ensures { result ≡ fips.compress state block.now }
 {
-    let v = all_rounds(vars_of(state), load_block(block));
-    sum_of(state, v)
+    sum_of(state, all_rounds(vars_of(state), *block))
 }
 
 // The hash value after each whole block of `words`.
 pub fn absorb(state: [u32; 8], words: &[u32]) -> [u32; 8]
     ensures { result ≡ fips.absorb state words.now }
 {
-    let n = words.len() / 16;
-    let mut s = state;
-    let mut b = 0;
-    while b < n {
-        let at = 16 * b;
-        let end = at + 16;
-        let next = compress(s, &words[at..end]);
-        s = next;
-        b += 1;
-    }
-    s
+    let (blocks, _) = words.as_chunks::<16>();
+    blocks.iter().fold(state, compress)
 }
 
 // At most 16 words, with zeros to a block.
@@ -107,23 +86,18 @@ fn with_zeros(words: &[u32]) -> [u32; 16]
     requires { length words.now ≤ 16 }
     ensures { result ≡ words.now ++ replicate (16 - length words.now) 0 }
 {
-    let mut w = [0u32; 16];
-    let mut i = 0;
-    while i < words.len() {
-        w[i] = words[i];
-        i += 1;
-    }
+    let mut w = [0; 16];
+    w[..words.len()].copy_from_slice(words);
     w
 }
 
 // A closing block: the length of a message of n words stands in the last two words.
-fn with_length(block: [u32; 16], n: usize) -> [u32; 16]
+fn with_length(mut block: [u32; 16], n: usize) -> [u32; 16]
     ensures { result ≡ take 14 block ++ fips.length_words n }
 {
-    let mut w = block;
-    w[14] = (n / 0x0800_0000 % 0x1_0000_0000) as u32;
-    w[15] = (n % 0x0800_0000 * 32) as u32;
-    w
+    block[14] = (n / 0x0800_0000 % 0x1_0000_0000) as u32;
+    block[15] = (n % 0x0800_0000 * 32) as u32;
+    block
 }
 
 // The hash value after a message of n words, whose last words that fill no block are `rest`.
@@ -135,20 +109,16 @@ fn close(state: [u32; 8], rest: &[u32], n: usize) -> [u32; 8]
     let mut b = with_zeros(rest);
     b[at] = 0x8000_0000;
     if at < 14 {
-        let last = with_length(b, n);
-        return compress(state, &last);
+        return compress(state, &with_length(b, n));
     }
-    let next = compress(state, &b);
-    let last = with_length([0u32; 16], n);
-    compress(next, &last)
+    compress(compress(state, &b), &with_length([0; 16], n))
 }
 
 // The digest of a message of whole blocks, from the hash value after its blocks and their number.
 pub fn finish(state: [u32; 8], blocks: u32) -> [u32; 8]
     ensures { result ≡ fips.finish state blocks }
 {
-    let none = [0u32; 0];
-    close(state, &none, 16 * (blocks as usize))
+    close(state, &[], 16 * blocks as usize)
 }
 
 // The digest of a message that ends in `words`, from the hash value after the whole blocks before them, which have `before` words.
@@ -156,10 +126,8 @@ fn digest_on(state: [u32; 8], before: usize, words: &[u32]) -> [u32; 8]
     requires { (before % 16 ≡ 0) × (before < 2 ^ 40) }
     ensures { result ≡ fips.absorb state (words.now ++ fips.padding (before + length words.now)) }
 {
-    let n = words.len();
-    let whole = n - n % 16;
-    let s = absorb(state, words);
-    close(s, &words[whole..], before + n % WRAP)
+    let (_, rest) = words.as_chunks::<16>();
+    close(absorb(state, words), rest, before + words.len() % WRAP)
 }
 
 // The digest of a message of whole words.
@@ -170,16 +138,13 @@ pub fn digest(words: &[u32]) -> [u32; 8]
 }
 
 // A block of words, each xor the pad.
-fn masked(k: [u32; 16], pad: u32) -> [u32; 16]
+fn masked(mut k: [u32; 16], pad: u32) -> [u32; 16]
     ensures { result ≡ mac.masked k pad }
 {
-    let mut w = k;
-    let mut i = 0;
-    while i < 16 {
-        w[i] = k[i] ^ pad;
-        i += 1;
+    for w in &mut k {
+        *w ^= pad;
     }
-    w
+    k
 }
 
 // The digest of a block and then a text.

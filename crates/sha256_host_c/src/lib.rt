@@ -1,4 +1,5 @@
 // The functions of sha256_host, exported for C and Rust. A list is passed as a pointer and then a length.
+// kept: slices, and a no where a length does not fit: the C interface
 
 #![tactic(auto)]
 

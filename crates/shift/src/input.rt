@@ -3,79 +3,37 @@
 ghost use Rattle.std.specs.Prelude.{◌≤◌, length, IfOk};
 
 use std::io;
-
-// The words of a record.
-pub const RECORD: usize = 32;
-
-// The first words of a record and how many they are; the rest are zero.
-#[derive(Clone, Copy)]
-pub struct Row {
-    pub words: [u32; RECORD],
-    pub count: usize,
-}
+use words::RECORD_WORDS;
 
 // Reads until the text is full or the input ends, and says how many bytes were read: they stand at the text's start.
-pub fn read_full(from: &mut impl io::Read, text: &mut [u8]) -> io::Result<usize>
+pub fn read_full(from: impl io::Read + Drop, text: &mut [u8]) -> io::Result<usize>
     ensures { IfOk result (λ n. n ≤ length text.new) }
 {
-    let mut done = 0;
-    while done < text.len() {
-        let n = from.read(&mut text[done..])?;
-        if n == 0 {
-            break;
-        }
-        done += n;
-    }
-    Ok(done)
-}
-
-// Where the first such byte stands from here on, or the text's end.
-pub fn until(text: &[u8], from: usize, byte: u8) -> usize
-    requires { from ≤ length text.now }
-    ensures { (from ≤ result) × (result ≤ length text.now) }
-{
-    let mut i = from;
-    while i < text.len() {
-        if text[i] == byte {
-            return i;
-        }
-        i += 1;
-    }
-    i
-}
-
-// The word with one more digit.
-fn longer(word: u32, byte: u8) -> u32 {
-    if byte < b'0' || b'9' < byte {
-        return word;
-    }
-    let longer = word as u64 * 10 + (byte - b'0') as u64;
-    (longer % 0x1_0000_0000) as u32
+    let whole = text.len();
+    let mut rest = &mut text[..];
+    io::copy(&mut from.take(whole as u64), &mut rest)?;
+    Ok(whole.saturating_sub(rest.len()))
 }
 
 // The word that the digits of a text spell.
 fn word(text: &[u8]) -> u32 {
-    let mut word = 0;
-    let mut i = 0;
-    while i < text.len() {
-        word = longer(word, text[i]);
-        i += 1;
-    }
-    word
+    text.iter()
+        .filter_map(|byte| char::from(*byte).to_digit(10))
+        .fold(
+            0u32,
+            |word, digit| word.wrapping_mul(10).wrapping_add(digit),
+        )
 }
 
-// The call that a text spells.
-pub fn read(text: &[u8]) -> Row
-    ensures { result.count ≤ 32 }
+// Reads the call that a text spells into a record, and says how many words were given.
+pub fn read(text: &[u8], record: &mut [u32; RECORD_WORDS]) -> usize
+    ensures { result ≤ 32 }
 {
-    let mut words = [0u32; RECORD];
-    let mut count = 0;
-    let mut at = 0;
-    while at < text.len() && count < RECORD {
-        let end = until(text, at, b' ');
-        words[count] = word(&text[at..end]);
-        count += 1;
-        at = end + 1;
+    let spelled = text.split_inclusive(|byte| *byte == b' ');
+    let mut given = 0;
+    for (slot, digits) in record.iter_mut().zip(spelled) {
+        *slot = word(digits);
+        given += 1;
     }
-    Row { words, count }
+    given
 }

@@ -9,11 +9,12 @@
 mod input;
 mod output;
 
-ghost use Rattle.std.specs.Prelude.{◌≤◌, length};
-
+use machine::{FRAME_WORDS, HEADER_WORDS};
 use std::io;
+use words::RECORD_WORDS;
 
 // Box A: 16 frames, secure pages 0-7 in frames 6-13, the monitor in frames 0-1.
+// kept: five numbers, no Machine: the C interface, by monitor_boot and monitor_batch.
 const FRAMES: u32 = 16;
 
 const SECURE: u32 = 6;
@@ -26,82 +27,92 @@ const MONITORS: u32 = 2;
 
 const KEY: [u32; 8] = [1, 2, 3, 4, 5, 6, 7, 8];
 
-const MEMORY_WORDS: usize = 16384;
+const MEMORY_WORDS: usize = FRAMES as usize * FRAME_WORDS;
 
-const LEDGER_WORDS: usize = 320;
+const LEDGER_WORDS: usize = HEADER_WORDS + PAGES as usize * RECORD_WORDS;
 
 // The bytes of the text that are read. What stands after them is left unread.
 const TEXT_BYTES: usize = 65536;
 
-// Word i of frame f holds 1024f + i: its own place.
-fn fill(memory: &mut [u32])
-    requires { length memory.old ≤ 16384 }
-{
-    let n = memory.len();
-    let mut i = 0;
-    while i < n {
-        memory[i] = i as u32;
-        i += 1;
+// The memory and the ledger of box A.
+#[derive(Drop)]
+struct BoxA {
+    memory: [u32; MEMORY_WORDS],
+    ledger: [u32; LEDGER_WORDS],
+}
+
+impl BoxA {
+    // Word i of frame f holds 1024f + i: its own place.
+    fn fill(&mut self) {
+        for (i, word) in self.memory.iter_mut().enumerate() {
+            *word = i as u32;
+        }
+    }
+
+    // Boots the box, and says whether that was done.
+    fn boot(&mut self) -> bool {
+        let code = monitor::monitor_boot(
+            FRAMES,
+            SECURE,
+            PAGES,
+            MONITOR,
+            MONITORS,
+            &KEY,
+            &mut self.memory,
+            &mut self.ledger,
+        );
+        code == 0
+    }
+
+    // The answer to a batch of one call, or none where the batch is refused.
+    fn batch(&mut self, call: &[u32; RECORD_WORDS]) -> Option<[u32; RECORD_WORDS]> {
+        let mut answer = [0; RECORD_WORDS];
+        let code = monitor::monitor_batch(
+            FRAMES,
+            SECURE,
+            PAGES,
+            MONITOR,
+            MONITORS,
+            &mut self.memory,
+            &mut self.ledger,
+            call,
+            &mut answer,
+        );
+        (code == 0).then_some(answer)
     }
 }
 
-fn boot(memory: &mut [u32], ledger: &mut [u32]) -> u32 {
-    let key = KEY;
-    monitor::monitor_boot(
-        FRAMES, SECURE, PAGES, MONITOR, MONITORS, &key, memory, ledger,
-    )
-}
-
-// A batch of one call.
-fn batch(memory: &mut [u32], ledger: &mut [u32], call: &[u32], answer: &mut [u32]) -> u32 {
-    monitor::monitor_batch(
-        FRAMES, SECURE, PAGES, MONITOR, MONITORS, memory, ledger, call, answer,
-    )
-}
-
-fn obey(
-    out: &impl Print,
-    number: usize,
-    row: input::Row,
-    memory: &mut [u32],
-    ledger: &mut [u32],
-) -> io::Result<()>
-    requires { row.count ≤ 32 }
-{
-    let words = row.words;
-    output::call(out, number, &words, row.count)?;
-    let mut answer = [0u32; input::RECORD];
-    if batch(memory, ledger, &words, &mut answer) != 0 {
-        return output::say(out, b" -> batch refused\n");
-    }
-    output::answer(out, words[0], &answer)
+// Plays the call that a text spells, and prints its line.
+fn obey(out: &impl Print, number: usize, text: &[u8], box_a: &mut BoxA) -> io::Result<()> {
+    let mut call = [0; RECORD_WORDS];
+    let given = input::read(text, &mut call);
+    output::call(out, number, &call, given)?;
+    let Some(answer) = box_a.batch(&call) else {
+        return print!(out; " -> batch refused\n");
+    };
+    output::answer(out, call[0], &answer)
 }
 
 // The calls of a text, in order. What stands after the last semicolon is no call.
-fn play(out: &impl Print, text: &[u8], memory: &mut [u32], ledger: &mut [u32]) -> io::Result<()> {
-    let n = text.len();
-    let mut number = 0;
-    let mut at = 0;
-    while at < n {
-        let end = input::until(text, at, b';');
-        if end == n {
-            return Ok(());
+fn play(out: &impl Print, text: &[u8], box_a: &mut BoxA) -> io::Result<()> {
+    for (i, piece) in text.split_inclusive(|byte| *byte == b';').enumerate() {
+        if let Some(call) = piece.strip_suffix(b";") {
+            obey(out, i + 1, call, box_a)?;
         }
-        number += 1;
-        obey(out, number, input::read(&text[at..end]), memory, ledger)?;
-        at = end + 1;
     }
     Ok(())
 }
 
 fn main(rt: HostRuntime) -> io::Result<()> {
-    let mut memory = [0u32; MEMORY_WORDS];
-    fill(&mut memory);
-    let mut ledger = [0u32; LEDGER_WORDS];
-    if boot(&mut memory, &mut ledger) != 0 {
-        return output::say(&rt, b"boot refused\n");
+    let mut box_a = BoxA {
+        memory: [0; MEMORY_WORDS],
+        ledger: [0; LEDGER_WORDS],
+    };
+    box_a.fill();
+    if !box_a.boot() {
+        return print!(rt; "boot refused\n");
     }
-    let mut text = [0u8; TEXT_BYTES];
-    let n = input::read_full(&mut rt.stdin(), &mut text)?;
-    play(&rt, &text[..n], &mut memory, &mut ledger)
+    let mut text = [0; TEXT_BYTES];
+    let n = input::read_full(rt.stdin(), &mut text)?;
+    play(&rt, &text[..n], &mut box_a)
 }

@@ -1,13 +1,12 @@
 -- Document 01, "Calls, checks left to right": calls 1 and 9-13, asked by the untrusted system of an enclave that is built. Of each call its
 -- refusals in order, then its effect, step by step. Assumes nothing.
-use Rattle.std.specs.Prelude.{ℕ, ◌+◌, ◌*◌, not, List, [], ◌∷◌, replicate, leb, eqb}
-use Rattle.words.specs.Words.{pick, when, first, word_bits, sum_below, least_below}
+use Rattle.std.specs.Prelude.{ℕ, ◌+◌, ◌*◌, not, List, [], ◌∷◌, ◌++◌, replicate, leb, eqb}
+use Rattle.words.specs.Words.{pick, when, first, word_bits, sum_below, least_below, list_below}
 use Rattle.machine.specs.declared.Machine.{Machine}
 use Rattle.machine.specs.Machine.{map_words}
-use Rattle.ledger.specs.Names.{state_word, suspended_word, registers_word, flags_word, free, space, thread, spare, final, stopped}
+use Rattle.ledger.specs.Names.{state_word, suspended_word, registers_word, free, space, thread, spare, final, stopped}
 use Rattle.ledger.specs.Ledger.{type_of, owner_of, state_of, count_of, entry_of, suspended_of, rec, map_bit, put, puts, vacate, lose, run}
 use Rattle.memory.specs.Memory.{wiped}
-use Rattle.answer.specs.declared.Regs.{Regs}
 use Rattle.answer.specs.declared.Answer.TheVariants.{Pair, Runs}
 use Rattle.answer.specs.Refusals.{no_such_page, owner_not_final, not_thread, is_suspended, not_suspended, not_stopped, still_owns, already_free}
 use Rattle.answer.specs.Answer.{Out, answers, done, gives, call, as_code}
@@ -33,27 +32,8 @@ enter_code b L t =
     ∷ [])
 
 -- "runs; r0-r2 = x, y, z, r15 = entry, rest 0"
-abbrev pub first_regs : ℕ → ℕ → ℕ → ℕ → Regs
-first_regs entry x y z =
-    record {
-      r0 = x;
-      r1 = y;
-      r2 = z;
-      r3 = 0;
-      r4 = 0;
-      r5 = 0;
-      r6 = 0;
-      r7 = 0;
-      r8 = 0;
-      r9 = 0;
-      r10 = 0;
-      r11 = 0;
-      r12 = 0;
-      r13 = 0;
-      r14 = 0;
-      r15 = entry;
-      flags = 0;
-    }
+abbrev pub first_regs : ℕ → ℕ → ℕ → ℕ → List ℕ
+first_regs entry x y z = x ∷ y ∷ z ∷ replicate 12 0 ++ (entry ∷ 0 ∷ [])
 
 unfoldable pub enter_thread : Machine → List ℕ → List ℕ → ℕ → ℕ → ℕ → ℕ → Out
 enter_thread b M L t x y z = call (enter_code b L t) M L (answers (Runs (first_regs (entry_of L t) x y z)) M (run L (t + 1)))
@@ -67,27 +47,8 @@ resume_code b L t =
     ∷ [])
 
 -- r0-r15 and the flags that thread t holds
-abbrev pub saved_regs : List ℕ → ℕ → Regs
-saved_regs L t =
-    record {
-      r0 = rec L t registers_word;
-      r1 = rec L t 5;
-      r2 = rec L t 6;
-      r3 = rec L t 7;
-      r4 = rec L t 8;
-      r5 = rec L t 9;
-      r6 = rec L t 10;
-      r7 = rec L t 11;
-      r8 = rec L t 12;
-      r9 = rec L t 13;
-      r10 = rec L t 14;
-      r11 = rec L t 15;
-      r12 = rec L t 16;
-      r13 = rec L t 17;
-      r14 = rec L t 18;
-      r15 = rec L t 19;
-      flags = rec L t flags_word;
-    }
+abbrev pub saved_regs : List ℕ → ℕ → List ℕ
+saved_regs L t = list_below 17 (λ i. rec L t (registers_word + i))
 
 -- "runs; gives saved registers, clears them and word 3"
 unfoldable pub resume : Machine → List ℕ → List ℕ → ℕ → Out

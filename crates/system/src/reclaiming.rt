@@ -1,114 +1,106 @@
 // Calls 1 and 11-13: stopping a space, taking its pages back, and how many are free.
+// kept: machine, memory and ledger side by side: docs/RULES.md, "Forms of the code": memory and ledger are slices of u32
 
 ghost use Rattle.std.specs.Prelude.{◌≡◌, List, ℕ};
 ghost use Rattle.machine.specs.Machine.{Lent};
-ghost use Rattle.answer.specs.Answer.{numbers};
-ghost use Rattle.system.specs.Calls.{get_phys_pages, stop, remove_space_code, remove_other_code, remove_code, left, remove, lowest_free, free_pages};
+ghost use Rattle.answer.specs.Refusals.{number_of};
+ghost use Rattle.answer.specs.Answer.{values, numbers};
+ghost use Rattle.system.specs.Calls.{get_phys_pages, stop, remove_space_code, remove_other_code, remove_code, left, remove, free_pages};
 
-use answer::{ALREADY_FREE, Answer, NO_SUCH_PAGE, NOT_STOPPED, STILL_OWNS, space_code};
+use answer::{Answer, Refusal, check_space, refuse};
 use ledger::{
-    COUNT, FREE, OWNER, SPACE, SPARE, STATE, STOPPED, TYPE, count_free, lose_page, lowest_free,
+    COUNT, OWNER, PageType, STATE, State, count_free, is_state, is_type, lose_page, lowest_free,
     store, vacate_page, word,
 };
 use machine::Machine;
-use words::{either, refuse};
 
 // ---- 1 GetPhysPages
 
+#[tactic(auto, unfolding(crate::specs::Calls::get_phys_pages))]
 pub fn get_phys_pages(b: Machine) -> Answer
-    ensures { (M L : List ℕ) → record { ans = numbers result; mem = M; led = L } ≡ get_phys_pages b M L }
+    ensures { (M L : List ℕ) → record { ans = values result; mem = M; led = L } ≡ get_phys_pages b M L }
 {
     Answer::Value(b.pages)
 }
 
 // ---- 11 Stop
 
-pub fn stop(b: Machine, led: &mut [u32], a: u32) -> Answer
+#[tactic(auto, unfolding(crate::specs::Calls::stop, answer::specs::Answer::unless))]
+pub fn stop(b: Machine, led: &mut [u32], a: u32) -> Result<Answer, Refusal>
     ensures { (M : List ℕ) → record { ans = numbers result; mem = M; led = led.new } ≡ stop b M led.old a }
 {
-    let code = space_code(b, led, a);
-    if code != 0 {
-        return Answer::Refused(code);
-    }
-    store(led, a, STATE, STOPPED);
-    Answer::Done
+    check_space(b, led, a)?;
+    store(led, a, STATE, State::Stopped.number());
+    Ok(Answer::Done)
 }
 
 // ---- 12 Remove
 
-fn remove_space_code(led: &[u32], p: u32) -> u32
-    ensures { result ≡ remove_space_code led.now p }
+// A space must be stopped, and own nothing.
+#[tactic(auto, unfolding(crate::specs::Calls::remove_space_code, words::specs::Words::or))]
+fn check_remove_space(led: &[u32], p: u32) -> Result<(), Refusal>
+    ensures { number_of result ≡ remove_space_code led.now p }
 {
-    either(
-        refuse(word(led, p, STATE) != STOPPED, NOT_STOPPED),
-        refuse(word(led, p, COUNT) != 0, STILL_OWNS),
-    )
+    refuse(!is_state(led, p, State::Stopped), Refusal::NotStopped)?;
+    refuse(word(led, p, COUNT) != 0, Refusal::StillOwns)
 }
 
-fn remove_other_code(led: &[u32], p: u32) -> u32
-    ensures { result ≡ remove_other_code led.now p }
+// Another page must be spare, or its owner stopped.
+#[tactic(auto, unfolding(crate::specs::Calls::remove_other_code))]
+fn check_remove_other(led: &[u32], p: u32) -> Result<(), Refusal>
+    ensures { number_of result ≡ remove_other_code led.now p }
 {
-    if word(led, p, TYPE) == SPARE {
-        return 0;
+    if is_type(led, p, PageType::Spare) {
+        return Ok(());
     }
-    refuse(
-        word(led, word(led, p, OWNER), STATE) != STOPPED,
-        NOT_STOPPED,
-    )
+    let owner = word(led, p, OWNER);
+    refuse(!is_state(led, owner, State::Stopped), Refusal::NotStopped)
 }
 
-fn remove_code(b: Machine, led: &[u32], p: u32) -> u32
-    ensures { result ≡ remove_code b led.now p }
+// Of a page that is in use, by its type.
+#[tactic(auto, unfolding(crate::specs::Calls::remove_code, words::specs::Words::or))]
+fn check_remove(b: Machine, led: &[u32], p: u32) -> Result<(), Refusal>
+    ensures { number_of result ≡ remove_code b led.now p }
 {
-    if b.pages <= p {
-        return NO_SUCH_PAGE;
+    refuse(b.pages <= p, Refusal::NoSuchPage)?;
+    refuse(is_type(led, p, PageType::Free), Refusal::AlreadyFree)?;
+    if is_type(led, p, PageType::Space) {
+        return check_remove_space(led, p);
     }
-    let t = word(led, p, TYPE);
-    if t == FREE {
-        return ALREADY_FREE;
-    }
-    if t == SPACE {
-        return remove_space_code(led, p);
-    }
-    remove_other_code(led, p)
+    check_remove_other(led, p)
 }
 
 // A page other than a space leaves its owner's count.
+#[tactic(auto, unfolding(crate::specs::Calls::left))]
 fn leave(led: &mut [u32], p: u32)
     ensures { led.new ≡ left led.old p }
 {
-    if word(led, p, TYPE) != SPACE {
+    if !is_type(led, p, PageType::Space) {
         lose_page(led, word(led, p, OWNER));
     }
 }
 
-pub fn remove(b: Machine, mem: &mut [u32], led: &mut [u32], p: u32) -> Answer
+#[tactic(auto, using(crate::proofs::Laws::passes_remove), unfolding(crate::specs::Calls::remove, answer::specs::Answer::unless))]
+pub fn remove(b: Machine, mem: &mut [u32], led: &mut [u32], p: u32) -> Result<Answer, Refusal>
     requires { Lent b mem.old led.old }
     ensures { record { ans = numbers result; mem = mem.new; led = led.new } ≡ remove b mem.old led.old p }
 {
-    let code = remove_code(b, led, p);
-    if code != 0 {
-        return Answer::Refused(code);
-    }
-    memory::wipe(mem, (b.secure as usize) + (p as usize));
+    check_remove(b, led, p)?;
+    memory::wipe(mem, b.frame(p));
     leave(led, p);
     vacate_page(led, p);
-    Answer::Done
+    Ok(Answer::Done)
 }
 
 // ---- 13 FreePages
 
-fn lowest_or_pages(b: Machine, led: &[u32]) -> u32
-    ensures { result ≡ lowest_free b led.now }
-{
-    if count_free(led) == 0 {
-        return b.pages;
-    }
-    lowest_free(led)
-}
-
+#[tactic(auto, unfolding(crate::specs::Calls::free_pages, crate::specs::Calls::lowest_free, crate::specs::Calls::free_count))]
 pub fn free_pages(b: Machine, led: &[u32]) -> Answer
-    ensures { (M : List ℕ) → record { ans = numbers result; mem = M; led = led.now } ≡ free_pages b M led.now }
+    ensures { (M : List ℕ) → record { ans = values result; mem = M; led = led.now } ≡ free_pages b M led.now }
 {
-    Answer::Pair(count_free(led), lowest_or_pages(b, led))
+    let count = count_free(led);
+    if count == 0 {
+        return Answer::Pair(0, b.pages);
+    }
+    Answer::Pair(count, lowest_free(led))
 }

@@ -4,6 +4,7 @@ use mathlib.Core.Path.{◌≡◌, refl, sym, ap, ◌∙◌}
 use mathlib.Core.Bool.{Bool, true, false, not, ◌&&◌}
 use mathlib.Core.List.{List}
 use mathlib.Core.Option.{some, none}
+use Rattle.std.specs.Prelude.{Option, Some, None}
 use native.Mathlib.Numerals.{add-one}
 use native.Mathlib.Omega.{arith}
 use lib.Dec.{eqb, leb}
@@ -13,10 +14,7 @@ use Rattle.words.specs.Words.{pick}
 use Rattle.mapping.specs.Mapping.{page_bytes, index_of, slot_of, rights_of, writes}
 use Rattle.memory.specs.Memory.{frame, put_word}
 use Rattle.memory.proofs.Frames.{length-put_word}
-use Rattle.walk.specs.declared.Walked.{Walked}
-use Rattle.walk.specs.declared.Walked.TheVariants.{At, NoTable}
-use Rattle.walk.specs.declared.Translated.{Translated}
-use Rattle.walk.specs.declared.Translated.TheVariants.{Yes, No}
+use Rattle.walk.specs.declared.Slot.{Slot}
 use Rattle.walk.specs.Walk.{walk, allowed, translate, slot_in, slot_for, filled, slot_word, mapped, linked}
 
 -- the address has a table, and its slot there holds v
@@ -44,11 +42,12 @@ module _ {M : List ℕ} {s first : ℕ} where
 
 -- ---- the walk: the first-level word is 0, or names a table
 module _ (M : List ℕ) (s first va : ℕ) where
-  pub walk_nothing : frame M (s + first) (index_of va) ≡ 0 → walk 2 M s first va ≡ NoTable
+  pub walk_nothing : frame M (s + first) (index_of va) ≡ 0 → walk 2 M s first va ≡ None
   unfolding walk
   walk_nothing e = rw e
 
-  pub walk_table : (T : ℕ) → frame M (s + first) (index_of va) ≡ T + 1 → walk 2 M s first va ≡ At T (frame M (s + T) (slot_of va))
+  pub walk_table : (T : ℕ) → frame M (s + first) (index_of va) ≡ T + 1
+      → walk 2 M s first va ≡ Some (record { table = T; word = frame M (s + T) (slot_of va) })
   unfolding walk
   walk_table T e = rw (e ∙ add-one T)
 
@@ -60,11 +59,12 @@ module _ (M : List ℕ) (s first va : ℕ) where
       go zero e = nothing e
       go (suc T) e = named T (e ∙ sym (add-one T))
 
-  pub walked_at : {T v : ℕ} → walk 2 M s first va ≡ At T v → (frame M (s + first) (index_of va) ≡ T + 1) × (frame M (s + T) (slot_of va) ≡ v)
+  pub walked_at : {x : Slot} → walk 2 M s first va ≡ Some x
+      → (frame M (s + first) (index_of va) ≡ x.table + 1) × (frame M (s + x.table) (slot_of va) ≡ x.word)
   walked_at e = by_word (λ z. (cc (walk_nothing z), cc (walk_nothing z))) (λ U t. (cc (walk_table U t), cc (walk_table U t)))
 
-  pub walk_holds : {v : ℕ} (h : Holds M s first va v) → walk 2 M s first va ≡ At h.table v
-  walk_holds h = walk_table h.table h.named ∙ ap (At h.table) h.slot
+  pub walk_holds : {v : ℕ} (h : Holds M s first va v) → walk 2 M s first va ≡ Some (record { table = h.table; word = v })
+  walk_holds h = walk_table h.table h.named ∙ ap (λ (w : ℕ). Some (record { table = h.table; word = w })) h.slot
 
 -- two memories that agree on the first-level word and on the slot's word
 pub walk_same : (M N : List ℕ) (s first va : ℕ) → frame N (s + first) (index_of va) ≡ frame M (s + first) (index_of va)
@@ -72,15 +72,15 @@ pub walk_same : (M N : List ℕ) (s first va : ℕ) → frame N (s + first) (ind
     → walk 2 N s first va ≡ walk 2 M s first va
 walk_same M N s first va e h =
     by_word M s first va (λ z. walk_nothing N s first va (e ∙ z) ∙ sym (walk_nothing M s first va z))
-    (λ T t. walk_table N s first va T (e ∙ t) ∙ ap (At T) (h T t) ∙ sym (walk_table M s first va T t))
+    (λ T t. walk_table N s first va T (e ∙ t) ∙ ap (λ (w : ℕ). Some (record { table = T; word = w })) (h T t) ∙ sym (walk_table M s first va T t))
 
 -- ---- a slot filled
 module _ (M : List ℕ) (s first va v : ℕ) where
-  pub filled_nothing : walk 2 M s first va ≡ NoTable → filled M s first va v ≡ M
+  pub filled_nothing : walk 2 M s first va ≡ None → filled M s first va v ≡ M
   unfolding filled
   filled_nothing e = rw e
 
-  pub filled_at : {T w : ℕ} → walk 2 M s first va ≡ At T w → filled M s first va v ≡ put_word M (s + T) (slot_of va) v
+  pub filled_at : {x : Slot} → walk 2 M s first va ≡ Some x → filled M s first va v ≡ put_word M (s + x.table) (slot_of va) v
   unfolding filled
   filled_at e = rw e
 
@@ -115,7 +115,7 @@ pub record Translates (M : List ℕ) (s first va : ℕ) (write : Bool) (v : ℕ)
   pub taken : v ≡ 0 → ⊥
   pub right : write ≡ true → writes v ≡ true
 
-pick_yes : (t : Bool) {x : Translated} {v : ℕ} → pick t No x ≡ Yes v → (t ≡ false) × (x ≡ Yes v)
+pick_yes : (t : Bool) {x : Option ℕ} {v : ℕ} → pick t None x ≡ Some v → (t ≡ false) × (x ≡ Some v)
 pick_yes true e = absurd (let z : ◌≡◌ {A = ℕ} 0 1 = cc in omega arith)
 pick_yes false e = (refl, e)
 
@@ -128,16 +128,17 @@ module _ (M : List ℕ) (s first va : ℕ) (write : Bool) where
   unfolding translate
   through a l = rw (eq-eqb (va % 4) 0 a, lt-leb (2 ^ 30) va l)
 
-  pub translated : {v : ℕ} → translate M s first va write ≡ Yes v → Translates M s first va write v
+  pub translated : {v : ℕ} → translate M s first va write ≡ Some v → Translates M s first va write v
   unfolding translate
   translated {v} e =
       let x = pick_yes (not (eqb (va % 4) 0)) e in
       let y = pick_yes (leb (2 ^ 30) va) x.1 in
       go (walk 2 M s first va) refl (eqb-true (va % 4) 0 (not-false (eqb (va % 4) 0) x.0)) (leb-false (2 ^ 30) va y.0) y.1
     where
-      go : (W : Walked) → walk 2 M s first va ≡ W → va % 4 ≡ 0 → va < 2 ^ 30 → allowed write W ≡ Yes v → Translates M s first va write v
-      go NoTable w a l p = absurd (let z : ◌≡◌ {A = ℕ} 0 1 = cc in omega arith)
-      go (At T u) w a l p =
+      go : (W : Option Slot) → walk 2 M s first va ≡ W → va % 4 ≡ 0 → va < 2 ^ 30 → allowed write W ≡ Some v → Translates M s first va write v
+      go None w a l p = absurd (let z : ◌≡◌ {A = ℕ} 0 1 = cc in omega arith)
+      go (Some sl) w a l p =
+          let u = sl.word in
           let x = pick_yes (eqb u 0) p in
           let y = pick_yes (write && not (writes u)) x.1 in
           let e : u ≡ v = cc in
@@ -145,28 +146,28 @@ module _ (M : List ℕ) (s first va : ℕ) (write : Bool) where
           record {
             aligned = a;
             low = l;
-            holds = record { table = T; named = h.0; slot = h.1 ∙ e };
+            holds = record { table = sl.table; named = h.0; slot = h.1 ∙ e };
             taken = λ z. eqb-false u 0 x.0 (e ∙ z);
             right = λ t. ap writes (sym e) ∙ writes_too write (writes u) y.0 t;
           }
 
-  pub translates : {v : ℕ} → Translates M s first va write v → translate M s first va write ≡ Yes v
+  pub translates : {v : ℕ} → Translates M s first va write v → translate M s first va write ≡ Some v
   translates {v} h =
       through h.aligned h.low
       ∙ ap (allowed write) (walk_holds M s first va h.holds)
       ∙ rw (ne_eqb v 0 h.taken) (go write h.right)
     where
-      go : (r : Bool) → (r ≡ true → writes v ≡ true) → pick (r && not (writes v)) No (Yes v) ≡ Yes v
+      go : (r : Bool) → (r ≡ true → writes v ≡ true) → pick (r && not (writes v)) None (Some v) ≡ Some v
       go true f = rw (f refl)
       go false f = refl
 
   -- by what an access is translated to
-  pub by-slot {ℓ} : {C : Type ℓ} → (translate M s first va write ≡ No → C) → ((v : ℕ) → translate M s first va write ≡ Yes v → C) → C
+  pub by-slot {ℓ} : {C : Type ℓ} → (translate M s first va write ≡ None → C) → ((v : ℕ) → translate M s first va write ≡ Some v → C) → C
   by-slot {C = C} refuses gives = go (translate M s first va write) refl
     where
-      go : (t : Translated) → translate M s first va write ≡ t → C
-      go No e = refuses e
-      go (Yes v) e = gives v e
+      go : (t : Option ℕ) → translate M s first va write ≡ t → C
+      go None e = refuses e
+      go (Some v) e = gives v e
 
 -- ---- what is found is what is translated
 module _ {M : List ℕ} {s first va : ℕ} {write : Bool} where
@@ -178,9 +179,9 @@ module _ {M : List ℕ} {s first va : ℕ} {write : Bool} where
   unfolding slot_for
   found {v} e = translated M s first va write (go (translate M s first va write) e)
     where
-      go : (t : Translated) → slot_in t ≡ some v → t ≡ Yes v
-      go No e = absurd (let z : ◌≡◌ {A = ℕ} 0 1 = cc in omega arith)
-      go (Yes u) e = cc
+      go : (t : Option ℕ) → slot_in t ≡ some v → t ≡ Some v
+      go None e = absurd (let z : ◌≡◌ {A = ℕ} 0 1 = cc in omega arith)
+      go (Some u) e = cc
 
   pub finds_none : ((v : ℕ) → Translates M s first va write v → ⊥) → slot_for M s first va write ≡ none
   unfolding slot_for

@@ -1,4 +1,5 @@
 // The walk of the page tables, and what an access and a mapping call do with it.
+// kept: memory, first secure frame and first-level page side by side: no plainer as a struct, because some read the memory and some write it
 
 #![tactic(auto)]
 
@@ -6,20 +7,14 @@ ghost use Rattle.std.specs.Prelude.{◌≡◌, ◌+◌, ◌<◌, ◌^◌};
 ghost use Rattle.mapping.specs.Mapping.{rights_end};
 ghost use Rattle.walk.specs.Walk.{walk, translate, frame_of, word_of, filled, slot_word, mapped, linked};
 
+use machine::frame_of;
 use mapping::{ADDRESS_END, Mapping, PAGE_BYTES, WORD_BYTES};
 
-// The table that has the address's slot, and what the slot holds.
-#[derive(Clone, Copy)]
-pub enum Walked {
-    At(u32, u32),
-    NoTable,
-}
-
-// The slot's word, or a no.
-#[derive(Clone, Copy)]
-pub enum Translated {
-    Yes(u32),
-    No,
+// The slot of an address: the page of the table that has it, and the word that it holds.
+#[derive(Clone, Copy, PartialEq, Eq)]
+pub struct Slot {
+    pub table: u32,
+    pub word: u32,
 }
 
 // The levels of the tables: a first-level page stands on the second.
@@ -38,63 +33,51 @@ pub fn address_word(va: u32) -> usize
     (va % PAGE_BYTES / WORD_BYTES) as usize
 }
 
-// The frame of secure page p.
-pub fn frame_of(s: u32, p: u32) -> usize
-    ensures { result ≡ s + p }
-{
-    (s as usize) + (p as usize)
-}
-
 // From the table in page p, at its level: 2 for a first-level page, 1 for a second-level table. s is the first secure frame.
-pub fn walk(mem: &[u32], s: u32, p: u32, va: u32, level: u32) -> Walked
+#[tactic(auto, unfolding(crate::specs::Walk::walk))]
+pub fn walk(mem: &[u32], s: u32, p: u32, va: u32, level: u32) -> Option<Slot>
     ensures { result ≡ walk level mem.now s p va }
 {
     if level == 0 {
-        return Walked::NoTable;
+        return None;
     }
     if level == 1 {
-        let v = memory::word(mem, frame_of(s, p), Mapping(va).slot() as usize);
-        return Walked::At(p, v);
+        let word = memory::word(mem, frame_of(s, p), Mapping(va).slot() as usize);
+        return Some(Slot { table: p, word });
     }
     let e = memory::word(mem, frame_of(s, p), Mapping(va).index() as usize);
-    if e == 0 {
-        return Walked::NoTable;
-    }
-    walk(mem, s, e - 1, va, level - 1)
+    walk(mem, s, e.checked_sub(1)?, va, level - 1)
 }
 
-// May the enclave whose first-level page is `first` load from, or store to, address va?
-pub fn translate(mem: &[u32], s: u32, first: u32, va: u32, write: bool) -> Translated
+// The slot's word, where the enclave whose first-level page is `first` may load from, or store to, address va.
+#[tactic(auto, unfolding(crate::specs::Walk::translate))]
+pub fn translate(mem: &[u32], s: u32, first: u32, va: u32, write: bool) -> Option<u32>
     ensures { result ≡ translate mem.now s first va write }
 {
-    if va % WORD_BYTES != 0 {
-        return Translated::No;
+    if va % WORD_BYTES != 0 || ADDRESS_END <= va {
+        return None;
     }
-    if ADDRESS_END <= va {
-        return Translated::No;
-    }
-    let Walked::At(_, v) = walk(mem, s, first, va, LEVELS) else {
-        return Translated::No;
-    };
-    if v == 0 {
-        return Translated::No;
+    let slot = walk(mem, s, first, va, LEVELS)?;
+    if slot.word == 0 {
+        return None;
     }
     if write {
-        if !Mapping(v).writes() {
-            return Translated::No;
+        if !Mapping(slot.word).writes() {
+            return None;
         }
     }
-    Translated::Yes(v)
+    Some(slot.word)
 }
 
 // The slot of address va holds v, where it has a table.
+#[tactic(auto, unfolding(crate::specs::Walk::filled))]
 pub fn fill(mem: &mut [u32], s: u32, first: u32, va: u32, v: u32)
     ensures { mem.new ≡ filled mem.old s first va v }
 {
-    let Walked::At(p, _) = walk(mem, s, first, va, LEVELS) else {
+    let Some(slot) = walk(mem, s, first, va, LEVELS) else {
         return;
     };
-    memory::put_word(mem, frame_of(s, p), Mapping(va).slot() as usize, v);
+    memory::put_word(mem, frame_of(s, slot.table), Mapping(va).slot() as usize, v);
 }
 
 // The slot that names frame f with these rights.
@@ -106,6 +89,7 @@ pub fn slot_word(f: u32, rights: u32) -> u32
 }
 
 // The slot of the mapping word names secure page p.
+#[tactic(auto, unfolding(crate::specs::Walk::mapped))]
 pub fn map_page(mem: &mut [u32], s: u32, first: u32, map: Mapping, p: u32)
     requires { s + p < 2 ^ 20 }
     ensures { mem.new ≡ mapped mem.old s first map.0 p }
@@ -114,6 +98,7 @@ pub fn map_page(mem: &mut [u32], s: u32, first: u32, map: Mapping, p: u32)
 }
 
 // First-level slot i of first-level page f names table p.
+#[tactic(auto, unfolding(crate::specs::Walk::linked))]
 pub fn link(mem: &mut [u32], s: u32, f: u32, i: u32, p: u32)
     requires { p + 1 < 2 ^ 32 }
     ensures { mem.new ≡ linked mem.old s f i p }

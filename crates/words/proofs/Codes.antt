@@ -1,23 +1,13 @@
--- Refusals: the first of two, what a code of 0 says of its test, and a check's code from what its steps leave. Assumes nothing.
+-- Refusals: two of which none refuses, and what a code of 0 says of its test. Assumes nothing.
 use Prim.Native.Nat.{ℕ, zero, suc, ◌<◌}
-use mathlib.Core.Path.{◌≡◌, refl, ap, ap₂, ◌∙◌}
+use mathlib.Core.Path.{◌≡◌, refl}
 use mathlib.Core.Bool.{Bool, true, false, not}
 use native.Mathlib.Nat.{suc-ne-zero}
 use lib.Dec.{leb, eqb}
 use borrow.Author.Tests.{leb-false, eqb-true, eqb-false, not-false}
 use Rattle.words.specs.Words.{when, or}
 
--- ---- the first refusal of two
-pub or_first : (c d : ℕ) → (c ≡ 0 → ⊥) → c ≡ or c d
-unfolding or
-or_first zero d h = absurd (h refl)
-or_first (suc c) d h = refl
-
-pub or_second : (c d : ℕ) → c ≡ 0 → d ≡ or c d
-unfolding or
-or_second zero d h = refl
-or_second (suc c) d h = absurd (suc-ne-zero c h)
-
+-- ---- two in order, of which none refuses
 pub or_none : {c d : ℕ} → or c d ≡ 0 → (c ≡ 0) × (d ≡ 0)
 unfolding or
 or_none {c = zero} e = (refl, e)
@@ -39,20 +29,3 @@ is x y c e = eqb-true x y (passes_not (eqb x y) c e)
 
 pub is_not : (x y c : ℕ) → when (eqb x y) (suc c) ≡ 0 → x ≡ y → ⊥
 is_not x y c e = eqb-false x y (passes (eqb x y) c e)
-
--- ---- a check's code, from what its steps leave
-pub either_of : {r c d c' d' : ℕ} → r ≡ or c d → c ≡ c' → d ≡ d' → r ≡ or c' d'
-either_of e p q = e ∙ ap₂ or p q
-
-pub refuse_of : {r : ℕ} {s t : Bool} (c : ℕ) → r ≡ when s c → s ≡ t → r ≡ when t c
-refuse_of c e p = e ∙ ap (λ (t : Bool). when t c) p
-
--- the word v is k; is not k; the test t fails
-pub refuse_eq : {r w v : ℕ} (k c : ℕ) → r ≡ when (eqb w k) c → w ≡ v → r ≡ when (eqb v k) c
-refuse_eq k c e p = refuse_of c e (ap (λ (x : ℕ). eqb x k) p)
-
-pub refuse_ne : {r w v : ℕ} (k c : ℕ) → r ≡ when (not (eqb w k)) c → w ≡ v → r ≡ when (not (eqb v k)) c
-refuse_ne k c e p = refuse_of c e (ap (λ (x : ℕ). not (eqb x k)) p)
-
-pub refuse_not : {r : ℕ} {s t : Bool} (c : ℕ) → r ≡ when (not s) c → s ≡ t → r ≡ when (not t) c
-refuse_not c e p = refuse_of c e (ap not p)

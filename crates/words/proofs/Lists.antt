@@ -1,12 +1,11 @@
--- Lists of words: zeros, a list read word by word, a list that a loop fills, and the list of f 0, f 1, .. Assumes nothing.
-use Prim.Native.Nat.{ℕ, zero, suc, ◌+◌, ◌≤◌, ◌<◌}
+-- Lists of words: zeros, a list read word by word, and the list of f 0, f 1, .. Assumes nothing.
+use Prim.Native.Nat.{ℕ, zero, suc, ◌+◌, ◌<◌}
 use mathlib.Core.Path.{◌≡◌, refl, sym, ap, ◌∙◌}
 use mathlib.Core.List.{List, [], ◌∷◌, ◌++◌}
-use native.Mathlib.Numerals.{add-one}
 use native.Mathlib.Omega.{arith}
 use native.Mathlib.Decide.{dec_lt}
-use lib.ListN.{length, get_or, set, take, drop, replicate, length-append, drop_of_length-le, get_or-append}
-use lib.Seq.{get_or-append-add, drop-cons, take-suc, take-suc-set, take_all}
+use lib.ListN.{length, get_or, drop, replicate, length-append, drop_of_length-le, get_or-append}
+use lib.Seq.{get_or-append-add, drop-cons}
 use Rattle.words.specs.Words.{list_below}
 
 -- a word of zeros is zero, past their end too
@@ -26,14 +25,6 @@ listed_is (suc n) i vs e = ap (λ (ws : List ℕ). get_or vs i 0 ∷ ws) (listed
 
 pub listed_all : (n : ℕ) (vs : List ℕ) → length vs ≡ n → listed n 0 vs ≡ vs
 listed_all n vs e = listed_is n 0 vs (omega arith)
-
--- ---- a list filled in order with the words of vs, in place of its own: one word more, and all
-module _ (O vs : List ℕ) (i : ℕ) (same : take i O ≡ take i vs) where
-  pub fill_turn : {v : ℕ} → v ≡ get_or vs i 0 → i < length O → i < length vs → take (i + 1) (set O i v) ≡ take (i + 1) vs
-  fill_turn e l m = rw e (rw (add-one i) (take-suc-set O i (get_or vs i 0) l ∙ ap (λ (x : List ℕ). x ++ (get_or vs i 0 ∷ [])) same ∙ sym (take-suc vs i 0 m)))
-
-  pub fill_all : length O ≤ i → length vs ≤ i → O ≡ vs
-  fill_all l m = sym (take_all i O l) ∙ same ∙ take_all i vs m
 
 -- ---- f 0, f 1, ..
 pub length-list_below : (n : ℕ) (f : ℕ → ℕ) → length (list_below n f) ≡ n

@@ -1,11 +1,12 @@
--- Words pasted into a list: its length and its words afterwards, the paste as a loop makes it, word by word, and a paste behind a paste. Assumes nothing.
+-- Words pasted into a list: its length and its words afterwards, and a paste behind a word or a paste. Assumes nothing.
 use Prim.Native.Nat.{ℕ, suc, ◌+◌, ◌-◌, ◌≤◌, ◌<◌}
-use mathlib.Core.Path.{◌≡◌, sym, ap, ◌∙◌}
-use mathlib.Core.List.{List, ◌++◌, append_assoc}
+use mathlib.Core.Path.{◌≡◌, sym, ap, ap₂, ◌∙◌}
+use mathlib.Core.List.{List, [], ◌∷◌, ◌++◌, append_assoc}
 use native.Mathlib.Omega.{arith}
 use native.Mathlib.Numerals.{add-one}
 use lib.ListN.{length, get_or, set, take, drop, length-append, length-take, length-drop, get_or-append}
-use lib.Seq.{length-take-le, get_or-take, get_or-drop, get_or-append-add, take_all, take_at, drop-append-add, drop-drop, paste-zero, paste-suc}
+use lib.Seq.{length-take-le, get_or-take, get_or-drop, get_or-append-add, take_at, take-suc-set, drop-set-lt, drop-append-add, drop-drop, paste-zero}
+use borrow.Rule.Slice.PartMut.{put_mid}
 use Rattle.words.specs.Words.{paste}
 
 module _ (M : List ℕ) (i n : ℕ) (vs : List ℕ) (fits : i + n ≤ length M) (size : length vs ≡ n) where
@@ -42,28 +43,24 @@ module _ (M : List ℕ) (i n : ℕ) (vs : List ℕ) (fits : i + n ≤ length M) 
       ∙ beyond (k - (i + n))
       ∙ ap (λ (x : ℕ). get_or M x 0) {x = i + n + (k - (i + n))} {y = k} (omega arith)
 
--- ---- the first k words of vs pasted: none of them, and one more
+-- ---- no word pasted
 pub paste_none : (M : List ℕ) (i : ℕ) (vs : List ℕ) → M ≡ paste M i 0 (take 0 vs)
 unfolding paste
 paste_none M i vs = paste-zero M i vs ∙ append_assoc (take i M) (take 0 vs) (drop (i + 0) M)
 
-pub paste_more : (M : List ℕ) (i : ℕ) (vs : List ℕ) (k : ℕ) → i + k < length M → k < length vs
-    → set (paste M i k (take k vs)) (i + k) (get_or vs k 0) ≡ paste M i (k + 1) (take (k + 1) vs)
+-- one word set, and more pasted behind it
+pub paste_first : (M : List ℕ) (i v : ℕ) (vs : List ℕ) → i < length M → paste (set M i v) (i + 1) (length vs) vs ≡ paste M i (suc (length vs)) (v ∷ vs)
 unfolding paste
-paste_more M i vs k l m =
-    ap (λ (x : List ℕ). set x (i + k) (get_or vs k 0)) (sym (append_assoc (take i M) (take k vs) (drop (i + k) M)))
-    ∙ paste-suc M i vs k 0 l m
-    ∙ append_assoc (take i M) (take (suc k) vs) (drop (i + suc k) M)
-    ∙ ap (λ (j : ℕ). take i M ++ (take j vs ++ drop (i + j) M)) (sym (add-one k))
+paste_first M i v vs l =
+    ap (λ (x : ℕ). take x (set M i v) ++ (vs ++ drop (i + 1 + length vs) (set M i v))) (add-one i)
+    ∙ ap₂ (λ (x y : List ℕ). x ++ (vs ++ y)) (take-suc-set M i v l) (drop-set-lt (i + 1 + length vs) M i v (omega arith))
+    ∙ append_assoc (take i M) (v ∷ []) (vs ++ drop (i + 1 + length vs) M)
+    ∙ ap (λ (x : ℕ). take i M ++ (v ∷ (vs ++ drop x M))) {x = i + 1 + length vs} {y = i + suc (length vs)} (omega arith)
 
--- a turn of a loop that stores v, which is word k of vs; and its end
-pub paste_turn : {S : List ℕ} {v : ℕ} (M : List ℕ) (i : ℕ) (vs : List ℕ) (k : ℕ) → S ≡ paste M i k (take k vs) → v ≡ get_or vs k 0
-    → i + k < length M → k < length vs → set S (i + k) v ≡ paste M i (k + 1) (take (k + 1) vs)
-paste_turn M i vs k s e l m = rw s (rw e (paste_more M i vs k l m))
-
-pub paste_all : (M : List ℕ) (i n : ℕ) (vs : List ℕ) (k : ℕ) → length vs ≡ n → k ≤ n → n ≤ k → paste M i k (take k vs) ≡ paste M i n vs
-paste_all M i n vs k size l m =
-    ap (λ (j : ℕ). paste M i j (take j vs)) {x = k} {y = n} (omega arith) ∙ ap (paste M i n) (take_all n vs (omega arith))
+-- ---- after a write to `M[i..i + n]`: what the part holds now is pasted
+pub part_pasted : (i k : ℕ) (M ys : List ℕ) (n : ℕ) (vs : List ℕ) → k ≡ n → ys ≡ vs → put_mid i k M ys ≡ paste M i n vs
+unfolding paste
+part_pasted i k M ys n vs l e = rw (l, e) (ap (λ (x : List ℕ). take i M ++ (vs ++ x)) (drop-drop n i M))
 
 -- ---- a paste right behind a paste is one paste
 module _ (M : List ℕ) (i n m : ℕ) (us vs : List ℕ) (fits : i + n ≤ length M) (size : length us ≡ n) where

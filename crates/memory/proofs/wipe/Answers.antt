@@ -1,23 +1,9 @@
-use mathlib.Core.Path.{refl, sym, ◌∙◌}
-use native.Mathlib.Omega.{arith}
-use lib.ListN.{length-set}
-use Rattle.words.proofs.Paste.{paste_none, paste_turn, paste_all}
-use Rattle.words.proofs.Lists.{zeros_at}
-use Rattle.machine.specs.Machine.{frame_words}
+use Rattle.std.proofs.Common.{◌∙◌, arith}
+use Rattle.words.proofs.Paste.{part_pasted}
 use Rattle.memory.specs.Memory.{wiped}
-use Rattle.memory.proofs.Frames.{zeros, length-zeros}
+use Rattle.memory.proofs.Frames.{zeros_in}
 use Rattle.memory.proofs.wipe.Goals as goal
-
-pub loop-k-init : goal.loop-k-init
-loop-k-init c = (omega arith, refl, paste_none _ _ zeros)
-
-pub loop-k-preserved : goal.loop-k-preserved
-loop-k-preserved c = (
-  omega arith,
-  simp length-set (omega arith),
-  paste_turn _ _ zeros _ c.loop-k.invariant.2 (sym (zeros_at frame_words c.loop-k.k)) (omega arith) (omega (arith, length-zeros)),
-)
 
 pub returns : goal.returns
 unfolding wiped
-returns c = c.loop-k.invariant.2 ∙ paste_all _ _ frame_words zeros _ length-zeros (omega arith) (omega arith)
+returns c = part_pasted _ _ _ _ _ _ (omega arith) (c.fill.ensures.after (λ y e. e) ∙ zeros_in c.args.mem.now c.args.g c.requires)

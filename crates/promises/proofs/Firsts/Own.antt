@@ -13,9 +13,7 @@ use Rattle.machine.specs.declared.Machine.{Machine}
 use Rattle.mapping.specs.Mapping.{writes}
 use Rattle.ledger.specs.Ledger.{type_of, owner_of, state_of, count_of}
 use Rattle.ledger.specs.Names.{space, spare, stopped}
-use Rattle.walk.specs.declared.Walked.TheVariants.{At}
-use Rattle.walk.specs.declared.Translated.{Translated}
-use Rattle.walk.specs.declared.Translated.TheVariants.{Yes, No}
+use Rattle.std.specs.Prelude.{Option, Some, None}
 use Rattle.walk.specs.Walk.{allowed, translate}
 use Rattle.answer.specs.Refusals.{not_stopped, still_owns, faulted}
 use Rattle.system.specs.Calls.{remove_space_code, remove_other_code}
@@ -60,9 +58,9 @@ remove_first L p =
         (here (record { no_space = n; no_spare = m; going = g })))
 
 -- ---- 41, 42: an access by what it is translated to
-abbrev fault_code : Translated → ℕ
-fault_code No = faulted
-fault_code (Yes v) = 0
+abbrev fault_code : Option ℕ → ℕ
+fault_code None = faulted
+fault_code (Some v) = 0
 
 module _ (b : Machine) (M L : List ℕ) (va : ℕ) where
   load_code : code_of (load b M L va) ≡ fault_code (translate M b.secure (first_page L) va false)
@@ -80,13 +78,13 @@ module _ (b : Machine) (M L : List ℕ) (va : ℕ) where
   unfolding translate
   access_first write {P} right = go (same_or (va % 4) 0) (lt_or_ge va (2 ^ 30))
     where
-      allows : (t : Bool) (v : ℕ) → fault_code (pick t No (Yes v)) ≡ when t faulted
+      allows : (t : Bool) (v : ℕ) → fault_code (pick t None (Some v)) ≡ when t faulted
       allows true v = refl
       allows false v = refl
 
       taken : (T : ℕ) → Names b M (first_page L) va T → (slot b M (first_page L) va T ≡ 0) ⊎ Not (slot b M (first_page L) va T ≡ 0)
           → Firsts (λ after. Not (Taken b M (first_page L) va) gives faulted else P after)
-          (fault_code (allowed write (At T (slot b M (first_page L) va T))))
+          (fault_code (allowed write (Some (record { table = T; word = slot b M (first_page L) va T }))))
       taken T t (inl z) =
           rw (eq-eqb (slot b M (first_page L) va T) 0 z) (here (λ x. x.full (one_slot b M (first_page L) va x.table T x.linked t ∙ z)))
       taken T t (inr n) =

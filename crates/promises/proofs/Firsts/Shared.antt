@@ -20,8 +20,8 @@ use Rattle.mapping.specs.Entry.{legal_entry}
 use Rattle.ledger.specs.Ledger.{header, type_of, owner_of, state_of}
 use Rattle.ledger.specs.Names.{running_word, free, space, thread, building, final}
 use Rattle.memory.specs.Memory.{frame}
-use Rattle.walk.specs.declared.Walked.{Walked}
-use Rattle.walk.specs.declared.Walked.TheVariants.{At, NoTable}
+use Rattle.std.specs.Prelude.{Option, Some, None}
+use Rattle.walk.specs.declared.Slot.{Slot}
 use Rattle.walk.specs.Walk.{walk}
 use Rattle.walk.proofs.Laws.{walk_nothing, walk_table, by_word}
 use Rattle.answer.specs.Refusals.{ill_formed, slot_taken, not_insecure, bad_record, no_such_index, bad_entry}
@@ -156,8 +156,8 @@ module _ (b : Machine) (M : List ℕ) (f : ℕ) where
   one_slot va T U t u = ap (slot va) {x = T} {y = U} (omega arith)
 
   -- a code of what the walk finds, by the first-level word
-  pub by_table : {P : Tests → Tests} (code : Walked → ℕ) (va : ℕ) → (frame M (b.secure + f) (index_of va) ≡ 0 → Firsts P (code NoTable))
-      → ((T : ℕ) → Names va T → Firsts P (code (At T (slot va T)))) → Firsts P (code (walk 2 M b.secure f va))
+  pub by_table : {P : Tests → Tests} (code : Option Slot → ℕ) (va : ℕ) → (frame M (b.secure + f) (index_of va) ≡ 0 → Firsts P (code None))
+      → ((T : ℕ) → Names va T → Firsts P (code (Some (record { table = T; word = slot va T })))) → Firsts P (code (walk 2 M b.secure f va))
   by_table code va nothing named =
       by_word M b.secure f va (λ z. rw (walk_nothing M b.secure f va z) (nothing z))
       (λ T t. rw (walk_table M b.secure f va T t) (named T t))
@@ -167,7 +167,7 @@ module _ (b : Machine) (M : List ℕ) (f : ℕ) where
   addr_first map = by_table taken_code map here (λ T t. past (λ z. omega arith) (taken T t (same_or (slot map T) 0)))
     where
       taken : (T : ℕ) → Names map T → (slot map T ≡ 0) ⊎ Not (slot map T ≡ 0)
-          → Firsts (λ after. Taken b M f map gives slot_taken else after) (taken_code (At T (slot map T)))
+          → Firsts (λ after. Taken b M f map gives slot_taken else after) (taken_code (Some (record { table = T; word = slot map T })))
       taken T t (inl z) = rw (eq-eqb (slot map T) 0 z) (past (λ x. x.full (one_slot map x.table T x.linked t ∙ z)) none)
       taken T t (inr n) = rw (ne_eqb (slot map T) 0 n) (here (record { table = T; linked = t; full = n }))
 

@@ -7,13 +7,13 @@ use native.Mathlib.Omega.{arith}
 use lib.Dec.{eqb}
 use lib.ListN.{length, get_or, drop, length-take, length-drop}
 use lib.Seq.{get_or-take, get_or-drop}
-use Rattle.words.specs.Words.{when, or, all_zero}
+use Rattle.words.specs.Words.{when, or, list_below, all_zero}
 use Rattle.machine.specs.declared.Machine.{Machine}
 use Rattle.ledger.specs.Names.{running_word, thread}
 use Rattle.ledger.specs.Ledger.{header, rec, type_of, suspended_of}
 use Rattle.accept.specs.Accept.{Accepted}
 use Rattle.answer.specs.Refusals.{interrupted}
-use Rattle.answer.specs.Answer.{Out, registers, unless, call, running}
+use Rattle.answer.specs.Answer.{Out, unless, call, running}
 use Rattle.system.specs.Calls.{saved_regs, resume}
 use Rattle.enclave.specs.Calls.{top_four, interrupt}
 use Rattle.records.specs.Records.{arg, args, turn_code, form_code}
@@ -88,11 +88,12 @@ interrupts b M L W i c =
 
 -- ---- Resume: the registers that the thread holds
 holds : (L vs : List ℕ) (t f : ℕ) → length vs ≡ 16 → ((j : ℕ) → j < 16 → rec L t (4 + j) ≡ get_or vs j 0) → rec L t 20 ≡ f
-    → registers (saved_regs L t) ≡ vs ++ (f ∷ [])
+    → saved_regs L t ≡ vs ++ (f ∷ [])
+unfolding list_below
 holds L vs t f l e g = ap₂ (λ (ws : List ℕ) (w : ℕ). ws ++ (w ∷ [])) (from_is 16 4 (rec L t) vs l e) g
 
 resumed : (b : Machine) (M L X : List ℕ) → Accepted b M L → Did b M L X 10
-    → (header (obey b M L X).led running_word ≡ arg X 1 + 1) × ((obey b M L X).ans ≡ 0 ∷ registers (saved_regs L (arg X 1)))
+    → (header (obey b M L X).led running_word ≡ arg X 1 + 1) × ((obey b M L X).ans ≡ 0 ∷ saved_regs L (arg X 1))
 unfolding lookup calls resume
 resumed b M L X ok d =
     let (z, e) = effect refl d refl in

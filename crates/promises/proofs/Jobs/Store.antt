@@ -14,7 +14,7 @@ use Rattle.ledger.specs.Names.{running_word, data_page}
 use Rattle.ledger.specs.Ledger.{header, rec}
 use Rattle.memory.specs.Memory.{frame, put_word}
 use Rattle.memory.proofs.Frames.{put_word_same, put_word_other, put_word_frame}
-use Rattle.walk.specs.declared.Translated.TheVariants.{Yes}
+use Rattle.std.specs.Prelude.{Some}
 use Rattle.walk.specs.Walk.{translate, frame_of, word_of}
 use Rattle.walk.proofs.Laws.{Translates, translated, translates}
 use Rattle.answer.specs.Answer.{running, owner}
@@ -35,15 +35,15 @@ use Rattle.promises.proofs.Opened.{opened, its_turn, acted}
 
 -- a store that is done was translated
 done_through : (b : Machine) (M L : List ℕ) (va w : ℕ) → code_of (store b M L va w) ≡ 0
-    → (v : ℕ) × (translate M b.secure (first_page L) va true ≡ Yes v)
+    → (v : ℕ) × (translate M b.secure (first_page L) va true ≡ Some v)
 unfolding fault
 done_through b M L va w =
-    by_store b M L va w (λ o. code_of o ≡ 0 → (v : ℕ) × (translate M b.secure (first_page L) va true ≡ Yes v)) (λ _ z. absurd (omega arith))
+    by_store b M L va w (λ o. code_of o ≡ 0 → (v : ℕ) × (translate M b.secure (first_page L) va true ≡ Some v)) (λ _ z. absurd (omega arith))
     (λ v y _. (v, y))
 
 -- the running enclave's address is translated to v, and the word there becomes that of the record
 module _ {b : Machine} {M L : List ℕ} (ok : Accepted b M L) (runs : header L running_word ≡ running L + 1) (W : List ℕ) (v : ℕ)
-    (leads : translate M b.secure (first_page L) (arg W 1) true ≡ Yes v) where
+    (leads : translate M b.secure (first_page L) (arg W 1) true ≡ Some v) where
   abbrev va : ℕ
   va = arg W 1
 

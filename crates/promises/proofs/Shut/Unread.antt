@@ -19,9 +19,8 @@ use Rattle.ledger.specs.Names.{running_word, space, data_page, stopped}
 use Rattle.ledger.specs.Ledger.{header, rec, hash}
 use Rattle.memory.specs.Memory.{frame, words_of, put_word, copied, wiped}
 use Rattle.memory.proofs.Frames.{length_words_of, words_of_at, length-put_word, put_word_other, length-copied, copied_same, copied_other, length-wiped, wiped_same, wiped_other}
-use Rattle.walk.specs.declared.Walked.{Walked}
-use Rattle.walk.specs.declared.Walked.TheVariants.{At, NoTable}
-use Rattle.walk.specs.declared.Translated.TheVariants.{No}
+use Rattle.std.specs.Prelude.{Option, Some, None}
+use Rattle.walk.specs.declared.Slot.{Slot}
 use Rattle.walk.specs.Walk.{walk, allowed, translate, frame_of, word_of, filled_at, filled, slot_word, mapped, linked}
 use Rattle.walk.proofs.Laws.{walk_same, length-filled, by-slot}
 use Rattle.answer.specs.Refusals.{slot_taken, not_insecure, no_such_index}
@@ -155,15 +154,15 @@ module _ {b : Machine} {M L : List ℕ} (ok : Accepted b M L) {M' : List ℕ} (s
     translate_both : (va : ℕ) (write : Bool) → translate M' b.secure (rec L a 2) va write ≡ translate M b.secure (rec L a 2) va write
     unfolding translate
     translate_both va write =
-        ap (λ (x : Walked). pick (not (eqb (va % 4) 0)) No (pick (leb address_end va) No (allowed write x))) (walk_both va)
+        ap (λ (x : Option Slot). pick (not (eqb (va % 4) 0)) None (pick (leb address_end va) None (allowed write x))) (walk_both va)
 
     filled_both : (va v : ℕ) → SameBesides b (filled M b.secure (rec L a 2) va v) (filled M' b.secure (rec L a 2) va v)
     unfolding filled
     filled_both va v = rw (walk_both va) (go (walk 2 M b.secure (rec L a 2) va))
       where
-        go : (x : Walked) → SameBesides b (filled_at M b.secure va v x) (filled_at M' b.secure va v x)
-        go NoTable = same
-        go (At T w) = put_both ok.lent.memory same (b.secure + T) (slot_of va) v
+        go : (x : Option Slot) → SameBesides b (filled_at M b.secure va v x) (filled_at M' b.secure va v x)
+        go None = same
+        go (Some sl) = put_both ok.lent.memory same (b.secure + sl.table) (slot_of va) v
 
     mapped_both : (map p : ℕ) → SameBesides b (mapped M b.secure (rec L a 2) map p) (mapped M' b.secure (rec L a 2) map p)
     unfolding mapped

@@ -8,13 +8,13 @@ pub returns-then-at-lt14 : goal.returns-then-at-lt14
 returns-then-at-lt14 c =
     close_one c.args.state c.args.rest.now c.args.n c.requires (search rules)
     c.with_zeros-b.ensures
-    c.with_length-last.ensures
+    c.with_length.ensures
     c.compress.ensures
 
 pub returns : goal.returns
 returns c =
     close_two c.args.state c.args.rest.now c.args.n c.requires (search rules)
     c.with_zeros-b.ensures
-    c.compress-next.ensures
-    c.with_length-last-2.ensures
     c.compress-2.ensures
+    c.with_length-2.ensures
+    c.compress-3.ensures

@@ -5,4 +5,4 @@ use Rattle.sha256.proofs.digest_on.Goals as goal
 pub returns : goal.returns
 returns c =
     let a = c.args in
-    digest_rest a.state a.words.now a.before c.absorb-s.ensures c.close.ensures
+    digest_rest a.state a.words.now a.before c.absorb.ensures c.as_chunks.ensures.back c.close.ensures

@@ -1,22 +1,20 @@
-use Rattle.std.proofs.Common.{◌≡◌, length, ◌∙◌, arith, rules}
+use Rattle.std.proofs.Common.{◌≡◌, ◌<◌, length, arith, rules, ◌∙◌, append-nil, take_all, drop_of_length-le}
+use Rattle.std.proofs.lemmas.List.{get_or_default}
+use Rattle.std.proofs.lemmas.List.Edits.{map_over_more}
+use Rattle.sha256.specs.Sha256.{◌⊕◌}
 use Rattle.sha256.specs.Hmac.{masked}
-use Rattle.sha256.proofs.Lists.{over_none, over_more, over_all, masked_at, masked_length}
-use borrow.Author.Rules.{rules}
 use Rattle.sha256.proofs.masked.Goals as goal
 
-pub loop-i-init : goal.loop-i-init
-loop-i-init c = (search rules, over_none _ _)
-
-pub loop-i-preserved : goal.loop-i-preserved
-loop-i-preserved c =
-    let a = c.args in
-    let l = c.loop-i in
-    (search rules, (rw (masked_at a.k a.pad l.i (search rules)) at (over_more a.k (masked a.k a.pad) l.w l.i l.invariant.1 (search rules) (omega (arith, masked_length a.k a.pad)))))
+pub loop-w-preserved : goal.loop-w-preserved
+loop-w-preserved c =
+    let l = c.loop-w in
+    let within : l.w-index < length l.w-items = omega arith in
+    map_over_more (λ w. w ⊕ c.args.pad) c.args.k l.w-items l.w-index _ (search rules) l.invariant (get_or_default l.w-items l.w-index 0 _ within)
 
 pub returns : goal.returns
+unfolding masked
 returns c =
-    let a = c.args in
-    let l = c.loop-i in
-    let e : l.i ≡ 16 = omega arith in
-    let m : length a.k ≡ 16 = search rules in
-    (rw e at l.invariant.1) ∙ over_all _ _ 16 (masked_length a.k a.pad ∙ m) m
+    let k = c.args.k in
+    let l : length k ≡ 16 = search rules in
+    let e : c.loop-w.w-index ≡ 16 = omega arith in
+    (rw (e, take_all 16 k (omega arith), drop_of_length-le k {i = 16} (omega arith)) at c.loop-w.invariant) ∙ append-nil _

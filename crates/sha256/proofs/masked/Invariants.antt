@@ -1,11 +1,7 @@
--- `masked` masks the words one by one. Assumes nothing.
-use Rattle.std.proofs.Common.{◌≡◌, ◌-◌, ◌≤◌}
-use Rattle.sha256.specs.Hmac.{masked}
-use Rattle.sha256.proofs.Lists.{over}
+-- `masked` masks the words one by one. The invariant: those passed are masked, the others stand. Assumes nothing.
+use Rattle.std.proofs.Common.{◌≡◌, ◌++◌, map, take, drop}
+use Rattle.sha256.specs.Sha256.{◌⊕◌}
 use Rattle.sha256.proofs.masked.Given as goal
 
-abbrev pub invariant-loop-i : goal.invariant-loop-i
-invariant-loop-i l = (l.i ≤ 16) × (l.w ≡ over l.k (masked l.k l.pad) l.i)
-
-abbrev pub decreases-loop-i : goal.decreases-loop-i
-decreases-loop-i l = 16 - l.i
+abbrev pub invariant-loop-w : goal.invariant-loop-w
+invariant-loop-w l = l.w-items ≡ map (λ w. w ⊕ l.pad) (take l.w-index l.fn.k) ++ drop l.w-index l.fn.k

@@ -1,5 +1,5 @@
 -- Each space passed has the counts that the pass over the pages gave.
-use Prim.Native.Nat.{ℕ, ◌≤◌, ◌<◌, ◌-◌}
+use Prim.Native.Nat.{ℕ, ◌<◌}
 use mathlib.Core.Path.{◌≡◌}
 use Rattle.words.specs.Words.{sum_below}
 use Rattle.ledger.specs.Names.{space}
@@ -10,9 +10,5 @@ use Rattle.accept.proofs.counts.counts_ok.Given as goal
 
 abbrev pub invariant-loop-a : goal.invariant-loop-a
 invariant-loop-a l =
-    (l.a ≤ l.n)
-    × ((x : ℕ) → x < l.a → rec l.led x 0 ≡ space
-    → Count l.n (rec l.led) x (sum_below l.n (tally counted (rec l.led) x)) (sum_below l.n (tally measured (rec l.led) x)))
-
-abbrev pub decreases-loop-a : goal.decreases-loop-a
-decreases-loop-a l = l.n - l.a
+    (x : ℕ) → x < l.a → rec l.led x 0 ≡ space
+    → Count l.n (rec l.led) x (sum_below l.n (tally counted (rec l.led) x)) (sum_below l.n (tally measured (rec l.led) x))

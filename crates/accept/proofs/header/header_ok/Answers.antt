@@ -1,14 +1,8 @@
 use Prim.Native.Nat.{◌+◌}
-use Rattle.words.proofs.Says.{yes_holds, no_fails, says_same}
+use Rattle.words.proofs.Says.{yes_holds, says_same}
 use Rattle.machine.specs.Machine.{map_start, map_words}
 use Rattle.accept.proofs.Words.{header_shown, to_zeros, from_zeros}
 use Rattle.accept.proofs.header.header_ok.Goals as goal
-
-pub returns-then-not-running_ok : goal.returns-then-not-running_ok
-returns-then-not-running_ok c x = no_fails c.running_ok.result c.running_ok.ensures c.if-not-running_ok.true x.runs
-
-pub returns-then-not-map_ok : goal.returns-then-not-map_ok
-returns-then-not-map_ok c x = no_fails c.map_ok.result c.map_ok.ensures c.if-not-map_ok.true x.free_map
 
 pub returns : goal.returns
 returns c =

@@ -10,20 +10,16 @@ returns-then-n-j c =
     map_past g.n (rec g.led.now) g.j c.if-n-j.true
 
 pub loop-i-init : goal.loop-i-init
-loop-i-init c = (omega arith, low_none _ _ _)
+loop-i-init c = low_none _ _ _
 
 pub overflow_add-sum : goal.overflow_add-sum
-overflow_add-sum c =
-    let l = c.loop-i in
-    record { fits = low_room _ _ _ c.loop-i-test.true c.free_bit.ensures l.invariant.1 }
+overflow_add-sum c = record { fits = low_room _ _ _ (omega arith) c.free_bit.ensures c.loop-i.invariant }
 
 pub loop-i-preserved : goal.loop-i-preserved
-loop-i-preserved c =
-    let l = c.loop-i in
-    (omega arith, low_more _ _ _ c.loop-i-test.true c.free_bit.ensures l.invariant.1)
+loop-i-preserved c = low_more _ _ _ (omega arith) c.free_bit.ensures c.loop-i.invariant
 
 pub returns : goal.returns
 returns c =
     let g = c.args in
     let i : c.loop-i.i ≡ 32 = omega arith in
-    c.loop-i.invariant.1 ∙ rw i (low_all g.n (rec g.led.now) g.j)
+    c.loop-i.invariant ∙ rw i (low_all g.n (rec g.led.now) g.j)

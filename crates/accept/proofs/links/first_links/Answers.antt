@@ -1,30 +1,27 @@
-use mathlib.Core.Path.{sym, subst, ◌∙◌}
+use mathlib.Core.Path.{refl, sym, ◌∙◌}
 use native.Mathlib.Omega.{arith}
-use Rattle.words.proofs.Says.{yes_holds, no_fails, says_same}
+use Rattle.std.proofs.Common.{rules}
+use Rattle.words.proofs.Says.{says_same}
 use Rattle.mapping.specs.Mapping.{most_tables}
+use Rattle.ledger.specs.Ledger.{rec}
 use Rattle.accept.specs.Checks.{Names}
-use Rattle.accept.proofs.Words.{here_shown, to_zeros, from_zeros}
+use Rattle.accept.proofs.Slots.{all_pass, some_fails, names_empty}
+use Rattle.accept.proofs.Words.{here_shown, first_shown, says_by, to_zeros, from_zeros}
 use Rattle.accept.proofs.links.first_links.Goals as goal
 
-pub slots_name-requires : goal.slots_name-requires
-slots_name-requires c =
-    (here_shown c.requires c.page_words-page.ensures).size
-
-pub returns-then-not-slots_name : goal.returns-then-not-slots_name
-returns-then-not-slots_name c x =
+pub returns-then-slots_pass : goal.returns-then-slots_pass
+returns-then-slots_pass c =
+    let g = c.args in
     let s = here_shown c.requires c.page_words-page.ensures in
-    no_fails c.slots_name.result c.slots_name.ensures c.if-not-slots_name.true
-    (λ i l. subst (Names _ _ _ i) (sym (s.at i (omega arith))) (x.names i l))
-
-pub returns : goal.returns
-returns c =
-    let s = here_shown c.requires c.page_words-page.ensures in
-    let names = yes_holds c.slots_name.result c.slots_name.ensures c.if-not-slots_name.false in
+    let names = all_pass (Names g.b (rec g.led.now) g.a) c.slots_pass.ensures (first_shown most_tables s (omega arith))
+    (λ j v h. search rules) (λ j v h. search rules) (λ j. names_empty refl) c.if-slots_pass.true in
     says_same c.all_zero.result
-    (λ z.
-    record {
-      only = sym c.word.ensures ∙ c.if-word-p.false;
-      names = λ i l. subst (Names _ _ _ i) (s.at i (omega arith)) (names i l);
-      rest = to_zeros s most_tables z;
-    })
+    (λ z. record { only = sym c.word.ensures ∙ c.if-word-p.false; names = names; rest = to_zeros s most_tables z })
     (λ x. from_zeros s most_tables x.rest) c.all_zero.ensures
+
+pub returns-else-slots_pass : goal.returns-else-slots_pass
+returns-else-slots_pass c =
+    let g = c.args in
+    let s = here_shown c.requires c.page_words-page.ensures in
+    says_by c.slots_pass.result (λ e. (cc))
+    (λ e x. some_fails (Names g.b (rec g.led.now) g.a) c.slots_pass.ensures (first_shown most_tables s (omega arith)) (λ j v h. search rules) (λ j v h. search rules) (λ j. names_empty refl) e x.names)

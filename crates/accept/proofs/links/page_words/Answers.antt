@@ -1,11 +1,14 @@
-use Prim.Native.Nat.{◌+◌, ◌*◌}
-use mathlib.Core.Path.{refl}
+use Prim.Native.Nat.{◌+◌, ◌/◌}
+use native.Mathlib.Omega.{arith}
+use lib.ListN.{length}
 use Rattle.machine.specs.Machine.{frame_words}
-use Rattle.memory.proofs.Frames.{part_is}
+use Rattle.memory.specs.Memory.{words_of}
+use Rattle.accept.proofs.Stretches.{chunk_at}
 use Rattle.accept.proofs.links.page_words.Goals as goal
 
 pub returns : goal.returns
+unfolding words_of
 returns c =
-    let a = c.args in
-    let s = frame_words * (a.b.secure + a.p) in
-    part_is a.mem.now (a.b.secure + a.p) s (s + frame_words) refl refl
+    let M = c.args.mem.now in
+    rw (c.frame.ensures, c.as_chunks.ensures.front)
+    (chunk_at frame_words (length M / frame_words) M (c.args.b.secure + c.args.p) (omega arith))

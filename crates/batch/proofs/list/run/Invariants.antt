@@ -1,5 +1,4 @@
 -- `run` meets its contract. The loop's invariant: what is answered so far, with the batch of what is left, is the whole batch.
-use Prim.Native.Nat.{◌-◌, ◌≤◌}
 use mathlib.Core.Path.{◌≡◌}
 use lib.ListN.{length}
 use Rattle.batch.specs.Batch.{batch}
@@ -8,8 +7,5 @@ use Rattle.batch.proofs.list.run.Given as goal
 
 abbrev pub invariant-loop-j : goal.invariant-loop-j
 invariant-loop-j l =
-    (l.j ≤ l.k) × (length l.mem ≡ length l.initial.mem) × (length l.led ≡ length l.initial.led) × (length l.answers ≡ length l.initial.answers)
+    (length l.mem ≡ length l.initial.mem) × (length l.led ≡ length l.initial.led) × (length l.answers ≡ length l.initial.answers)
     × (so_far l.b l.k l.j l.mem l.led l.calls l.answers ≡ batch l.b l.k l.initial.mem l.initial.led l.calls)
-
-abbrev pub decreases-loop-j : goal.decreases-loop-j
-decreases-loop-j l = l.k - l.j

@@ -4,4 +4,4 @@ use Rattle.batch.proofs.list.turn.Goals as goal
 
 pub returns : goal.returns
 returns c =
-    part_turned _ _ _ _ _ _ _ _ refl refl c.obey-a.ensures c.write_answer.ensures
+    part_turned _ _ _ _ _ _ _ _ refl refl c.record_at.ensures c.obey-answer.ensures c.write_answer.ensures

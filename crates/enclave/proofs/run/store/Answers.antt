@@ -1,11 +1,5 @@
-use Rattle.enclave.proofs.Steps.{store_fails, store_writes}
+use Rattle.enclave.proofs.Steps.{store_fails}
 use Rattle.enclave.proofs.run.store.Goals as goal
 
 pub returns-in_default : goal.returns-in_default
-returns-in_default c =
-    store_fails _ _ _ _ c.first_page.ensures _ c.translate.ensures c.in_default.is (c.fault.ensures _)
-
-pub returns : goal.returns
-returns c =
-    store_writes _ _ _ _ c.first_page.ensures _ c.translate.ensures c.in-Yes.is c.slot_frame.ensures
-    c.address_word.ensures c.put_word.ensures
+returns-in_default c = store_fails _ _ _ _ c.first_page.ensures _ c.translate.ensures c.in_default.is (c.fault.ensures _)

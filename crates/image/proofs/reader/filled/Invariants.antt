@@ -1,12 +1,9 @@
 -- The words of the fill below i are zero.
-use Prim.Native.Nat.{ℕ, ◌+◌, ◌-◌, ◌≤◌, ◌<◌}
+use Prim.Native.Nat.{ℕ, ◌+◌, ◌≤◌, ◌<◌}
 use mathlib.Core.Path.{◌≡◌}
 use Rattle.words.specs.Bytes.{word_at}
-use Rattle.image.specs.Image.{payload_at, payload_words}
+use Rattle.image.specs.Image.{payload_at}
 use Rattle.image.proofs.reader.filled.Given as goal
 
 abbrev pub invariant-loop-i : goal.invariant-loop-i
-invariant-loop-i l = (l.initial.i ≤ l.i) × ((k : ℕ) → k < l.i → l.initial.i ≤ k → word_at l.block (payload_at + k) ≡ 0)
-
-abbrev pub decreases-loop-i : goal.decreases-loop-i
-decreases-loop-i l = payload_words - l.i
+invariant-loop-i l = (k : ℕ) → k < l.i → l.initial.i ≤ k → word_at l.block (payload_at + k) ≡ 0

@@ -1,31 +1,25 @@
+use Prim.Native.Nat.{ℕ}
+use mathlib.Core.Path.{ap, ◌∙◌}
 use native.Mathlib.Omega.{arith}
+use borrow.Rule.Slice.PartMut.{mid_len}
+use lib.ListN.{take, drop}
+use Rattle.words.proofs.Paste.{part_pasted}
+use Rattle.image.specs.Reader.{payload_of}
 use Rattle.image.proofs.Inside.{runs_fit}
 use Rattle.image.proofs.Placed.{length-payload_of}
 use Rattle.image.proofs.Taken.{ledger_taken, memory_taken}
 use Rattle.image.proofs.reader.take_payload.Goals as goal
 
-pub overflow_add-start : goal.overflow_add-start
-overflow_add-start c =
-    let lent = c.requires.lent in
-    omega (arith, (runs_fit _ _ _ _ lent c.requires.j_bound c.runs_of-run.ensures).in_memory, lent.memory, lent.fits.frames_high)
-
-pub take_run-requires : goal.take_run-requires
-take_run-requires c =
-    let fit = runs_fit _ _ _ _ c.requires.lent c.requires.j_bound c.runs_of-run.ensures in
-    record { count_in_bounds = fit.in_ledger; count_bound = omega (arith, fit.in_payload); block_len = c.requires.block_len }
-
-pub take_run-requires-2 : goal.take_run-requires-2
-take_run-requires-2 c =
-    let fit = runs_fit _ _ _ _ c.requires.lent c.requires.j_bound c.runs_of-run.ensures in
-    record { count_in_bounds = fit.in_memory; count_bound = omega (arith, fit.in_payload); block_len = c.requires.block_len }
-
 pub returns : goal.returns
 returns c =
     let j = c.args.j in
-    let r = c.requires in
+    let q = c.requires in
     let e = c.runs_of-run.ensures in
-    let long = length-payload_of c.args.block.now in
+    let r = c.runs_of-run.result in
+    let B = c.args.block.now in
+    let fit = runs_fit _ _ _ _ q.lent q.j_bound e in
+    let long = length-payload_of B in
     record {
-      mem_after = memory_taken j r.lent e r.j_bound _ long c.take_run-2.ensures;
-      led_after = ledger_taken j r.lent e r.j_bound _ long c.take_run.ensures;
+      mem_after = memory_taken j q.lent e q.j_bound _ long (part_pasted _ _ _ _ _ _ (omega arith) (c.take_run-2.ensures ∙ ap (λ (n : ℕ). take n (drop r.ledger (payload_of B))) (mid_len _ _ c.args.mem.now (omega (arith, fit.in_memory)) ∙ omega arith)));
+      led_after = ledger_taken j q.lent e q.j_bound _ long (part_pasted _ _ _ _ _ _ (omega arith) (c.take_run.ensures ∙ ap (λ (n : ℕ). take n (drop 0 (payload_of B))) (mid_len _ _ c.args.led.now (omega (arith, fit.in_ledger)) ∙ omega arith)));
     }

@@ -1,14 +1,10 @@
--- k words are taken.
-use Prim.Native.Nat.{◌-◌, ◌≤◌}
+-- The first words are those of the payload.
+use Prim.Native.Nat.{ℕ, ◌+◌, ◌<◌}
 use mathlib.Core.Path.{◌≡◌}
-use lib.ListN.{length, take, drop}
-use Rattle.words.specs.Words.{paste}
-use Rattle.image.specs.Reader.{payload_of}
+use lib.ListN.{get_or}
+use Rattle.words.specs.Bytes.{word_at}
+use Rattle.image.specs.Image.{payload_at}
 use Rattle.image.proofs.reader.take_run.Given as goal
 
 abbrev pub invariant-loop-k : goal.invariant-loop-k
-invariant-loop-k l =
-    (l.k ≤ l.count) × (length l.out ≡ length l.initial.out) × (l.out ≡ paste l.initial.out l.from l.k (take l.k (take l.count (drop l.i (payload_of l.block)))))
-
-abbrev pub decreases-loop-k : goal.decreases-loop-k
-decreases-loop-k l = l.count - l.k
+invariant-loop-k l = (n : ℕ) → n < l.k → get_or l.out n 0 ≡ word_at l.block (payload_at + l.i + n)

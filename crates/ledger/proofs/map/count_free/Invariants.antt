@@ -1,12 +1,8 @@
 -- The sum so far is that of the words passed.
-use Rattle.std.proofs.Common.{◌≡◌, ◌-◌, ◌*◌, ◌≤◌}
+use Rattle.std.proofs.Common.{◌≡◌, ◌*◌}
 use Rattle.words.specs.Words.{sum_below}
-use Rattle.machine.specs.Machine.{map_words}
 use Rattle.ledger.specs.Ledger.{map_bit}
 use Rattle.ledger.proofs.map.count_free.Given as goal
 
 abbrev pub invariant-loop-j : goal.invariant-loop-j
-invariant-loop-j l = (l.j ≤ map_words) × (l.sum ≡ sum_below (32 * l.j) (map_bit l.led))
-
-abbrev pub decreases-loop-j : goal.decreases-loop-j
-decreases-loop-j l = map_words - l.j
+invariant-loop-j l = l.sum ≡ sum_below (32 * l.j) (map_bit l.led)

@@ -40,4 +40,4 @@ returns c =
     c.at-v-13.ensures)
     c.at-v-14.ensures)
     c.at-v-15.ensures)
-    c.at-v-16.ensures
+    c.at.ensures

@@ -1,5 +1,5 @@
 -- `next16` gives the next sixteen words: it rolls each of the sixteen. Assumes nothing.
-use Rattle.std.proofs.Common.{refl, ◌∙◌}
+use Rattle.std.proofs.Common.{refl, rules, ◌∙◌}
 use Rattle.sha256.proofs.Sixteens.{rolls, rolls_more, rolls_words}
 use Rattle.sha256.proofs.schedule.next16.Goals as goal
 
@@ -40,4 +40,4 @@ returns c =
     c.roll-14.ensures)
     c.roll-15.ensures)
     c.roll-16.ensures
-    ∙ rolls_words s.w.now c.requires
+    ∙ rolls_words s.w.now (search rules)

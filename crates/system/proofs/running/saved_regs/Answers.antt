@@ -1,5 +1,12 @@
+use Rattle.std.proofs.Common.{arith, refl, add-one}
+use Rattle.std.proofs.lemmas.List.{take_more_set}
+use Rattle.words.specs.Words.{list_below}
 use Rattle.system.proofs.running.saved_regs.Goals as goal
 
-pub returns : goal.returns
-returns c =
-    rw (c.word-17.ensures, c.word-16.ensures, c.word-15.ensures, c.word-14.ensures, c.word-13.ensures, c.word-12.ensures, c.word-11.ensures, c.word-10.ensures, c.word-9.ensures, c.word-8.ensures, c.word-7.ensures, c.word-6.ensures, c.word-5.ensures, c.word-4.ensures, c.word-3.ensures, c.word-2.ensures, c.word.ensures)
+pub loop-i-init : goal.loop-i-init
+unfolding list_below
+loop-i-init c = refl
+
+pub loop-i-preserved : goal.loop-i-preserved
+unfolding list_below
+loop-i-preserved c = rw (take_more_set c.loop-i.reg-items c.loop-i.i c.word.result (omega arith), c.loop-i.invariant, c.word.ensures, add-one)

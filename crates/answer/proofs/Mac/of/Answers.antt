@@ -1,6 +1,0 @@
-use Rattle.words.proofs.Lists.{listed_all}
-use borrow.Author.Rules.{rules}
-use Rattle.answer.proofs.Mac.of.Goals as goal
-
-pub returns : goal.returns
-returns c = listed_all 8 _ (search rules)

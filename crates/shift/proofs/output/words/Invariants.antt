@@ -1,9 +1,0 @@
--- `words` ends. Assumes nothing.
-use Prim.Native.Nat.{◌-◌}
-use Rattle.shift.proofs.output.words.Given as goal
-
-abbrev pub invariant-loop-i : goal.invariant-loop-i
-invariant-loop-i g l = Unit {0}
-
-abbrev pub decreases-loop-i : goal.decreases-loop-i
-decreases-loop-i g l = l.to - l.i
