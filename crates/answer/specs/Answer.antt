@@ -14,6 +14,7 @@ use Rattle.answer.specs.declared.Answer.TheVariants.{Done, Value, Pair, Attested
 use Rattle.answer.specs.Refusals.{number, no_such_page, not_free, not_space, wrong_state, slot_taken, no_table, no_such_index, interrupted, faulted}
 
 -- ---- "An answer record is: code (0 when done), values": the numbers of an answer, for each of its cases
+-- .. of a call that was done
 abbrev pub values : Answer → List ℕ
 values Done = 0 ∷ []
 values (Value v) = 0 ∷ v ∷ []
@@ -23,9 +24,15 @@ values (Runs regs) = 0 ∷ regs
 values Interrupted = interrupted ∷ []
 values Faulted = faulted ∷ []
 
+-- .. or that a number refuses
+abbrev pub answered : Result Answer ℕ → List ℕ
+answered (Ok a) = values a
+answered (Err c) = c ∷ []
+
+-- those of the code's answer
 abbrev pub numbers : Result Answer Refusal → List ℕ
-numbers (Ok a) = values a
-numbers (Err e) = number e ∷ []
+numbers (Ok a) = answered (Ok a)
+numbers (Err e) = answered (Err (number e))
 
 -- ---- what a call leaves: the numbers of its answer, the memory, the ledger
 pub record Out : Type 0 where
@@ -34,7 +41,7 @@ pub record Out : Type 0 where
   pub led : List ℕ
 
 abbrev pub answers : Answer → List ℕ → List ℕ → Out
-answers a M L = record { ans = values a; mem = M; led = L }
+answers a M L = record { ans = answered (Ok a); mem = M; led = L }
 
 -- done, with no value; done with one
 abbrev pub done : List ℕ → List ℕ → Out
@@ -45,7 +52,7 @@ gives v = answers (Value v)
 
 -- "A refused call changes nothing beyond its answer record, which holds the number": where no check refuses, the call is done
 abbrev pub refused : ℕ → List ℕ → List ℕ → Out
-refused c M L = record { ans = c ∷ []; mem = M; led = L }
+refused c M L = record { ans = answered (Err c); mem = M; led = L }
 
 unfoldable pub unless : ℕ → Out → Out → Out
 unless zero x o = o

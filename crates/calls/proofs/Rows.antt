@@ -2,15 +2,25 @@
 use Prim.Native.Nat.{ℕ}
 use mathlib.Core.Path.{◌≡◌, refl, ap, ◌∙◌}
 use mathlib.Core.Bool.{Bool, true, false}
-use mathlib.Core.List.{List, [], ◌∷◌}
+use mathlib.Core.List.{List, [], ◌∷◌, ◌++◌}
 use native.Mathlib.Omega.{arith}
 use lib.Dec.{eqb}
-use borrow.Author.Tests.{ne_eqb, eqb-true}
+use borrow.Author.Tests.{eq-eqb, ne_eqb, eqb-true}
 use Rattle.words.specs.Words.{pick}
 use Rattle.calls.specs.declared.call.Call.{Call}
 use Rattle.calls.specs.declared.call.Call.TheVariants.{GetPhysPages, InitAddrSpace, InitThread, InitTable, AllocSpare, MapSecure, MapInsecure, Finalise, Enter, Resume, Stop, Remove, FreePages, GetRandom, Attest, Verify, SpareTable, MapData, UnmapData, Exit, Interrupt, Fault, Load, Store}
 use Rattle.calls.specs.Table.{Row, no_row, the_row, calls, lookup}
-use Rattle.calls.specs.Acted.{call_number}
+use Rattle.calls.specs.Acted.{call_number, found}
+
+-- ---- the first row is the one, or it is not
+module _ {A : Type 0} {i : ℕ} (r : Row) (rs : List Row) (none : A) (some : Row → A) where
+  pub hit : i ≡ r.number → found i (r ∷ rs) none some ≡ some r
+  unfolding found lookup
+  hit e = rw (eq-eqb i r.number e)
+
+  pub miss : (i ≡ r.number → ⊥) → found i (r ∷ rs) none some ≡ found i rs none some
+  unfolding found lookup
+  miss n = rw (ne_eqb i r.number n)
 
 -- the row that is found has the number that was looked for
 pub number_is : (i : ℕ) (rs : List Row) {r : Row} → lookup i rs ≡ the_row r → i ≡ r.number
@@ -42,9 +52,18 @@ unfolding lookup
 missed i [] o = refl
 missed i (r ∷ rs) o = rw (ne_eqb i r.number o.0) (missed i rs o.1)
 
+skip : {A : Type 0} (i : ℕ) (rs ss : List Row) (none : A) (some : Row → A) → Other i rs → found i (rs ++ ss) none some ≡ found i ss none some
+skip i [] ss none some o = refl
+skip i (r ∷ rs) ss none some o = miss r (rs ++ ss) none some o.0 ∙ skip i rs ss none some o.1
+
 -- rows whose arms are skipped are not found
-pub skipped : (i : ℕ) (rs : List Row) → Skipped i Unit rs → lookup i rs ≡ no_row
-skipped i rs p = missed i rs (others i Unit rs p).1
+pub skipped : {A : Type 0} (i : ℕ) (rs ss : List Row) (none : A) (some : Row → A) → Skipped i Unit rs
+    → found i (rs ++ ss) none some ≡ found i ss none some
+skipped i rs ss none some p = skip i rs ss none some (others i Unit rs p).1
+
+-- .. and where all are, there is none
+pub none_left : (i : ℕ) (rs : List Row) → Skipped i Unit rs → lookup i rs ≡ no_row
+none_left i rs p = missed i rs (others i Unit rs p).1
 
 -- each call has its row
 pub listed : (c : Call) → (r : Row) × (lookup (call_number c) calls ≡ the_row r)

@@ -22,13 +22,13 @@ pub struct Runs {
     pub frames: usize,
 }
 
-fn ledger_words(b: Machine) -> usize
+pub fn ledger_words(b: Machine) -> usize
     ensures { result ≡ ledger_words b }
 {
     HEADER_WORDS + RECORD_WORDS * (b.pages as usize)
 }
 
-fn secure_words(b: Machine) -> usize
+pub fn secure_words(b: Machine) -> usize
     ensures { result ≡ secure_words b }
 {
     FRAME_WORDS * (b.pages as usize)
@@ -42,7 +42,7 @@ pub fn total(b: Machine) -> u32
     ensures { result ≡ total b }
 {
     let words = ledger_words(b) + secure_words(b);
-    words.div_ceil(PAYLOAD_WORDS) as u32
+    (words as u32).div_ceil(PAYLOAD_WORDS as u32)
 }
 
 // What word 2 of a block says of it.

@@ -61,6 +61,6 @@ pub fn write_block(b: Machine, mem: &[u32], led: &[u32], number: u32, j: u32, bl
     lay(block, NUMBER, &[number, j, total_word(b)]);
     lay(block, PAYLOAD, &led[run.from..run.from + run.ledger]);
     lay(block, frames, &mem[start..start + run.frames]);
-    block[WORD_BYTES * fill..BODY_BYTES].fill(0);
+    block[WORD_BYTES * fill..WORD_BYTES * CHECK].fill(0);
     seal(block);
 }

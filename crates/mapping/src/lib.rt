@@ -19,7 +19,7 @@ pub const TABLE_BYTES: u32 = 4194304;
 // The tables that a first-level page can name, and the slots of a table.
 pub const MOST_TABLES: u32 = 256;
 
-const SLOTS: u32 = 1024;
+pub const SLOTS: u32 = 1024;
 
 // Addresses, and the pages that they name, lie below these.
 pub const ADDRESS_END: u32 = 1073741824;

@@ -1,17 +1,26 @@
 -- What each writer of the memory does to its view `frame` and to its length. Assumes nothing.
 use Prim.Native.Nat.{ℕ, ◌+◌, ◌*◌, ◌-◌, ◌≤◌, ◌<◌}
 use mathlib.Core.Path.{◌≡◌, refl, sym, ap, ◌∙◌}
-use mathlib.Core.List.{List, append_assoc}
+use mathlib.Core.List.{List}
 use native.Mathlib.Omega.{arith}
 use native.Mathlib.Decide.{dec_lt}
-use lib.ListN.{length, get_or, take, drop, replicate, length-set, length-take, length-drop, length-replicate}
-use lib.Seq.{ext_get_or, get_or-set_same, get_or-set_other, get_or-take, get_or-drop}
-use Rattle.std.specs.List.{copy_within}
+use lib.ListN.{length, get_or, take, drop, replicate, length-set, length-take, length-drop, length-replicate, get_or-eq_default}
+use lib.Seq.{length-take-le, ext_get_or, get_or-set_same, get_or-set_other, get_or-take, get_or-drop, set_out}
 use Rattle.words.specs.Words.{paste}
 use Rattle.words.proofs.Paste.{length-paste, paste_before, paste_in, paste_after}
 use Rattle.words.proofs.Lists.{zeros_at}
 use Rattle.machine.specs.Machine.{frame_words}
 use Rattle.memory.specs.Memory.{frame, words_of, put_word, copied, wiped}
+
+-- ---- a word outside the memory
+module _ (M : List ℕ) (f k : ℕ) (l : length M ≤ frame_words * f + k) where
+  pub frame_out : frame M f k ≡ 0
+  unfolding frame
+  frame_out = get_or-eq_default M 0 l
+
+  pub put_word_out : (v : ℕ) → put_word M f k v ≡ M
+  unfolding put_word
+  put_word_out v = set_out M (frame_words * f + k) v l
 
 -- ---- the words of a frame
 module _ (M : List ℕ) (f : ℕ) where
@@ -111,10 +120,15 @@ module _ (M : List ℕ) (f g : ℕ) (lf : frame_words * f + frame_words ≤ leng
   unfolding copied
   copied_other = pasted_other M g (words_of M f) lg (length_words_of M f lf)
 
--- what the code's `copy_within` makes of the memory
-pub copied_within : (M : List ℕ) (f g : ℕ) {S : List ℕ} → S ≡ copy_within M (frame_words * f) (frame_words * f + frame_words) (frame_words * g)
-    → S ≡ copied M f g
-unfolding copied words_of paste
-copied_within M f g e =
-    let n : frame_words * f + frame_words - frame_words * f ≡ frame_words = omega arith in
-    e ∙ rw n (append_assoc (take (frame_words * g) M) (take frame_words (drop (frame_words * f) M)) (drop (frame_words * g + frame_words) M))
+  -- while frame f is copied to another frame g, what is still to be copied stays
+  pub source : {S : List ℕ} (k : ℕ) → S ≡ paste M (frame_words * g) k (take k (words_of M f)) → (f ≡ g → ⊥) → k < frame_words
+      → get_or S (frame_words * f + k) 0 ≡ get_or (words_of M f) k 0
+  unfolding frame
+  source k s n m = rw s (go (dec_lt f g) ∙ sym (words_of_at M f k m))
+    where
+      size : length (take k (words_of M f)) ≡ k
+      size = length-take-le k (words_of M f) (omega (arith, length_words_of M f lf))
+
+      go : Dec (f < g) → get_or (paste M (frame_words * g) k (take k (words_of M f))) (frame_words * f + k) 0 ≡ get_or M (frame_words * f + k) 0
+      go (yes b) = paste_before M (frame_words * g) k (take k (words_of M f)) (omega arith) size (frame_words * f + k) (omega arith)
+      go (no b) = paste_after M (frame_words * g) k (take k (words_of M f)) (omega arith) size (frame_words * f + k) (omega arith)

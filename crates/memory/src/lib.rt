@@ -39,13 +39,16 @@ pub fn put_word(mem: &mut [u32], f: usize, k: usize, v: u32)
 }
 
 // Frame g holds the words of frame f.
-#[tactic(auto, using(crate::proofs::Frames::copied_within))]
+// kept: word by word, no `copy_within`: docs/HOST.md: MapSecure takes the same number of instructions wherever the frame lies
 pub fn copy(mem: &mut [u32], f: usize, g: usize)
     requires { (frame_words * f + frame_words ≤ length mem.old) × (frame_words * g + frame_words ≤ length mem.old) × (f ≡ g → ⊥) }
     ensures { mem.new ≡ copied mem.old f g }
 {
     let from = FRAME_WORDS * f;
-    mem.copy_within(from..from + FRAME_WORDS, FRAME_WORDS * g);
+    let to = FRAME_WORDS * g;
+    for i in 0..FRAME_WORDS {
+        mem[to + i] = mem[from + i];
+    }
 }
 
 // Frame g is zero.

@@ -2,10 +2,10 @@
 
 #![tactic(auto)]
 
-ghost use Rattle.std.specs.Prelude.{◌≡◌, drop, length, replicate};
+ghost use Rattle.std.specs.Prelude.{◌≡◌, drop, length, replicate, Err};
 ghost use Rattle.words.specs.Words.{record_words, padded, all_zero};
 ghost use Rattle.answer.specs.Refusals.{number_of};
-ghost use Rattle.answer.specs.Answer.{values, numbers};
+ghost use Rattle.answer.specs.Answer.{values, answered, numbers};
 ghost use Rattle.records.specs.Records.{turn_code, form_code};
 
 use answer::{Answer, FAULTED, INTERRUPTED, Refusal, refuse};
@@ -72,6 +72,16 @@ fn write_values(answer: Answer, out: &mut [u32])
     }
 }
 
+// A refusal's number, whatever it is, then zeros.
+#[tactic(auto, unfolding(words::specs::Words::padded))]
+pub fn write_refused(code: u32, out: &mut [u32])
+    requires { length out.old ≡ record_words }
+    ensures { out.new ≡ padded (answered (Err code)) }
+{
+    clear(out);
+    out[0] = code;
+}
+
 // The answer's numbers, then zeros, into its words.
 // kept: a slice and its length: tried as an array by `as_mut_array`, the proof of batch's `turn` did not close
 #[tactic(auto, unfolding(words::specs::Words::padded))]
@@ -79,9 +89,11 @@ pub fn write_answer(answer: Result<Answer, Refusal>, out: &mut [u32])
     requires { length out.old ≡ record_words }
     ensures { out.new ≡ padded (numbers answer) }
 {
-    clear(out);
     match answer {
-        Ok(done) => write_values(done, out),
-        Err(refusal) => out[0] = refusal.number(),
+        Ok(done) => {
+            clear(out);
+            write_values(done, out);
+        }
+        Err(refusal) => write_refused(refusal.number(), out),
     }
 }

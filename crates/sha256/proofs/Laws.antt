@@ -1,6 +1,6 @@
 -- What callers cite of SHA-256 and HMAC: the digest of whole blocks is `finish` of `absorb`, a message may be absorbed in parts, and
--- each hash value has eight words. Assumes nothing.
-use Rattle.std.proofs.Common.{◌≡◌, ℕ, zero, suc, ◌+◌, ◌*◌, ◌/◌, ◌%◌, ◌<◌, ◌≤◌, List, ◌++◌, length, take, drop, replicate, refl, sym, ◌∙◌, append_assoc, add-zero, add-suc, arith, length-append, length-drop, take-append-drop, length-take-le, take_all}
+-- each hash value has eight words below 2^32. Assumes nothing.
+use Rattle.std.proofs.Common.{◌≡◌, ℕ, zero, suc, ◌+◌, ◌*◌, ◌/◌, ◌%◌, ◌^◌, ◌<◌, ◌≤◌, List, [], ◌∷◌, ◌++◌, length, get_or, take, drop, replicate, refl, sym, ◌∙◌, append_assoc, add-zero, add-suc, arith, length-append, length-drop, take-append-drop, length-take-le, take_all, rules}
 use Rattle.std.specs.List.{fold}
 use Rattle.std.specs.Simd.{first_chunks}
 use lib.ListN.{length-replicate}
@@ -119,3 +119,48 @@ sha256_length m = absorb_length _ _ refl
 pub hmac_length : (key text : List ℕ) → length (hmac key text) ≡ 8
 unfolding hmac
 hmac_length key text = sha256_length _
+
+-- each word of a hash value is below 2^32
+abbrev pub Words : List ℕ → Type 0
+Words s = (j : ℕ) → get_or s j 0 < 2 ^ 32
+
+abbrev Small : List ℕ → Type 0
+Small [] = Unit {0}
+Small (x ∷ s) = (x < 2 ^ 32) × Small s
+
+words_of : (s : List ℕ) → Small s → Words s
+words_of [] h j = omega arith
+words_of (x ∷ s) h zero = h.0
+words_of (x ∷ s) h (suc j) = words_of s h.1 j
+
+compress_small : (s b : List ℕ) → Small (compress s b)
+unfolding compress sum_of
+compress_small s b = search rules
+
+pub compress_words : (s b : List ℕ) → Words (compress s b)
+compress_words s b = words_of (compress s b) (compress_small s b)
+
+blocks_words : (n : ℕ) (s m : List ℕ) → Words s → Words (blocks n s m)
+unfolding blocks
+blocks_words zero s m h = h
+blocks_words (suc n) s m h = compress_words _ _
+
+pub absorb_words : (s m : List ℕ) → Words s → Words (absorb s m)
+unfolding absorb
+absorb_words s m h = blocks_words _ s m h
+
+pub finish_words : (s : List ℕ) (n : ℕ) → Words (finish s n)
+unfolding finish
+finish_words s n = compress_words _ _
+
+H0-small : Small H0
+unfolding H0
+H0-small = search rules
+
+pub sha256_words : (m : List ℕ) → Words (sha256 m)
+unfolding sha256
+sha256_words m = absorb_words _ _ (words_of H0 H0-small)
+
+pub hmac_words : (key text : List ℕ) → Words (hmac key text)
+unfolding hmac
+hmac_words key text = sha256_words _

@@ -1,18 +1,11 @@
 -- The padding of a message in the blocks that the code makes of it. Assumes nothing.
-use Rattle.std.proofs.Common.{◌≡◌, ℕ, suc, ◌+◌, ◌-◌, ◌*◌, ◌/◌, ◌%◌, ◌^◌, ◌<◌, ◌≤◌, List, [], ◌∷◌, ◌++◌, length, take, drop, set, replicate, sym, refl, ap, ◌∙◌, append_assoc, arith, length-append, length-set, drop_of_length-le, take-suc-set}
+use Rattle.std.proofs.Common.{◌≡◌, ℕ, suc, ◌+◌, ◌-◌, ◌*◌, ◌/◌, ◌%◌, ◌^◌, ◌<◌, ◌≤◌, List, ◌∷◌, ◌++◌, length, take, drop, set, replicate, sym, refl, ap, ◌∙◌, append_assoc, arith, length-append}
 use Rattle.std.proofs.lemmas.List.{take-replicate}
 use lib.ListN.{length-replicate, replicate-append-replicate}
-use lib.Seq.{set_at, set_split, append_snoc, take-append-add}
+use lib.Seq.{set_at, take-append-add}
 use Rattle.sha256.specs.Sha256.{compress, absorb, finish, zeros, length_words, padding, pad, H0, sha256}
+use Rattle.sha256.proofs.Lists.{last_two}
 use Rattle.sha256.proofs.Laws.{absorb_parts, absorb_block, zeros_fit, zeros_least, padding_length, padding_whole, absorb_rest}
-
--- the last two of 16 words
-last_two : (b : List ℕ) (x y : ℕ) → length b ≡ 16 → set (set b 14 x) 15 y ≡ take 14 b ++ x ∷ y ∷ []
-last_two b x y l =
-    let m : length (set b 14 x) ≡ 16 = length-set b 14 x ∙ l in
-    set_split (set b 14 x) 15 y (omega arith)
-    ∙ rw (take-suc-set b 14 x (omega arith), drop_of_length-le (set b 14 x) {i = 16} (omega arith))
-    (append_snoc (take 14 b) x (y ∷ []))
 
 -- the length in the last two words
 pub length-put : (b : List ℕ) (n x y : ℕ) → length b ≡ 16 → x ≡ 32 * n / 2 ^ 32 % 2 ^ 32 → y ≡ 32 * n % 2 ^ 32

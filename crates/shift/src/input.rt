@@ -6,13 +6,23 @@ use std::io;
 use words::RECORD_WORDS;
 
 // Reads until the text is full or the input ends, and says how many bytes were read: they stand at the text's start.
-pub fn read_full(from: impl io::Read + Drop, text: &mut [u8]) -> io::Result<usize>
+// Each read asks for all that is left: what a socket hands over in one piece and is not asked for is lost, as it would be by `io::copy`.
+pub fn read_full(mut from: impl io::Read + Drop, text: &mut [u8]) -> io::Result<usize>
     ensures { IfOk result (λ n. n ≤ length text.new) }
 {
-    let whole = text.len();
-    let mut rest = &mut text[..];
-    io::copy(&mut from.take(whole as u64), &mut rest)?;
-    Ok(whole.saturating_sub(rest.len()))
+    let mut done = 0;
+    for _ in 0..text.len() {
+        let rest = &mut text[done..];
+        if rest.is_empty() {
+            break;
+        }
+        let n = from.read(rest)?;
+        if n == 0 {
+            break;
+        }
+        done += n;
+    }
+    Ok(done)
 }
 
 // The word that the digits of a text spell.

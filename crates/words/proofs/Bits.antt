@@ -1,7 +1,7 @@
 -- The bits of a word: halving, a word as the sum of its bits, and one bit made 0 or made 1. Assumes nothing.
 use Prim.Native.Nat.{ℕ, zero, suc, ◌+◌, ◌*◌, ◌-◌, ◌/◌, ◌%◌, ◌^◌, ◌≤◌, ◌<◌}
 use mathlib.Core.Path.{◌≡◌, refl, sym, ap, ◌∙◌}
-use mathlib.Core.Logic.{⊎_elim}
+use mathlib.Core.Logic.{◌⊎◌, ⊎_elim, inl, inr}
 use native.Mathlib.Nat.{pow-suc, mul_assoc, one-mul, le_of_suc-le-suc}
 use native.Mathlib.Omega.{arith}
 use lib.Pow.{shr-shr, shl_exact}
@@ -104,7 +104,27 @@ pub add_fits : (n w k : ℕ) → k < n → w < 2 ^ n → bit w k ≡ 0 → w + 2
 add_fits n w k l f z = (bit_made n w k (w + 2 ^ k) 1 l f (omega arith) (rw z (omega arith))).0
 
 -- ---- bit_off and bit_on
+pub sub_le : (w k : ℕ) → bit w k ≡ 1 → 2 ^ k ≤ w
+sub_le w zero o = omega (arith, bit_zero w)
+sub_le w (suc k) o = omega (arith, pow-suc 2 k, sub_le (w / 2) k (sym (bit_suc w k) ∙ o))
+
 module _ (w k : ℕ) where
+  pub off_one : bit w k ≡ 1 → bit_off w k ≡ w - 2 ^ k
+  unfolding bit_off
+  off_one o = rw (o, one-mul)
+
+  pub off_zero : bit w k ≡ 0 → bit_off w k ≡ w
+  unfolding bit_off
+  off_zero z = rw z (omega arith)
+
+  pub on_zero : bit w k ≡ 0 → bit_on w k ≡ w + 2 ^ k
+  unfolding bit_on
+  on_zero z = rw (z, one-mul)
+
+  pub on_one : bit w k ≡ 1 → bit_on w k ≡ w
+  unfolding bit_on
+  on_one o = rw o (omega arith)
+
   -- what `w & 1 << k` is
   and_bit : bit_and w (2 ^ k) ≡ bit w k * 2 ^ k
   unfolding bit
@@ -114,12 +134,11 @@ module _ (w k : ℕ) where
   unfolding bit_off
   off_is = omega (arith, and_bit, and_le_l w (2 ^ k))
 
+  zero_or_one : (bit w k ≡ 0) ⊎ (bit w k ≡ 1)
+  zero_or_one = ⊎_elim inl (λ n. inr (omega (arith, bit_le w k))) (same_or (bit w k) 0)
+
   pub on_is : bit_on w k + bit w k * 2 ^ k ≡ w + 1 * 2 ^ k
-  unfolding bit_on
-  on_is = ⊎_elim (λ (z : bit w k ≡ 0). rw z (omega arith)) (λ n. rw (one n) (omega arith)) (same_or (bit w k) 0)
-    where
-      one : (bit w k ≡ 0 → ⊥) → bit w k ≡ 1
-      one n = omega (arith, bit_le w k)
+  on_is = ⊎_elim (λ z. rw (on_zero z) (rw z (omega arith))) (λ o. rw (on_one o) (rw o refl)) zero_or_one
 
   module _ (l : k < 32) where
     -- `w | 1 << k` and `w & !(1 << k)`

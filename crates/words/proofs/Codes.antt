@@ -1,4 +1,4 @@
--- Refusals: two of which none refuses, and what a code of 0 says of its test. Assumes nothing.
+-- Refusals: the first of two, and what a code of 0 says of its test. Assumes nothing.
 use Prim.Native.Nat.{ℕ, zero, suc, ◌<◌}
 use mathlib.Core.Path.{◌≡◌, refl}
 use mathlib.Core.Bool.{Bool, true, false, not}
@@ -7,7 +7,17 @@ use lib.Dec.{leb, eqb}
 use borrow.Author.Tests.{leb-false, eqb-true, eqb-false, not-false}
 use Rattle.words.specs.Words.{when, or}
 
--- ---- two in order, of which none refuses
+-- ---- the first refusal of two
+pub or_first : (c d : ℕ) → (c ≡ 0 → ⊥) → c ≡ or c d
+unfolding or
+or_first zero d h = absurd (h refl)
+or_first (suc c) d h = refl
+
+pub or_second : (c d : ℕ) → c ≡ 0 → d ≡ or c d
+unfolding or
+or_second zero d h = refl
+or_second (suc c) d h = absurd (suc-ne-zero c h)
+
 pub or_none : {c d : ℕ} → or c d ≡ 0 → (c ≡ 0) × (d ≡ 0)
 unfolding or
 or_none {c = zero} e = (refl, e)

@@ -1,11 +1,11 @@
--- Words pasted into a list: its length and its words afterwards, and a paste behind a word or a paste. Assumes nothing.
+-- Words pasted into a list: its length and its words afterwards, the paste word by word, and a paste behind a word or a paste. Assumes nothing.
 use Prim.Native.Nat.{ℕ, suc, ◌+◌, ◌-◌, ◌≤◌, ◌<◌}
 use mathlib.Core.Path.{◌≡◌, sym, ap, ap₂, ◌∙◌}
 use mathlib.Core.List.{List, [], ◌∷◌, ◌++◌, append_assoc}
 use native.Mathlib.Omega.{arith}
 use native.Mathlib.Numerals.{add-one}
 use lib.ListN.{length, get_or, set, take, drop, length-append, length-take, length-drop, get_or-append}
-use lib.Seq.{length-take-le, get_or-take, get_or-drop, get_or-append-add, take_at, take-suc-set, drop-set-lt, drop-append-add, drop-drop, paste-zero}
+use lib.Seq.{length-take-le, get_or-take, get_or-drop, get_or-append-add, take_all, take_at, take-suc-set, drop-set-lt, drop-append-add, drop-drop, paste-zero, paste-suc}
 use borrow.Rule.Slice.PartMut.{put_mid}
 use Rattle.words.specs.Words.{paste}
 
@@ -47,6 +47,25 @@ module _ (M : List ℕ) (i n : ℕ) (vs : List ℕ) (fits : i + n ≤ length M) 
 pub paste_none : (M : List ℕ) (i : ℕ) (vs : List ℕ) → M ≡ paste M i 0 (take 0 vs)
 unfolding paste
 paste_none M i vs = paste-zero M i vs ∙ append_assoc (take i M) (take 0 vs) (drop (i + 0) M)
+
+-- ---- one word more
+pub paste_more : (M : List ℕ) (i : ℕ) (vs : List ℕ) (k : ℕ) → i + k < length M → k < length vs
+    → set (paste M i k (take k vs)) (i + k) (get_or vs k 0) ≡ paste M i (k + 1) (take (k + 1) vs)
+unfolding paste
+paste_more M i vs k l m =
+    ap (λ (x : List ℕ). set x (i + k) (get_or vs k 0)) (sym (append_assoc (take i M) (take k vs) (drop (i + k) M)))
+    ∙ paste-suc M i vs k 0 l m
+    ∙ append_assoc (take i M) (take (suc k) vs) (drop (i + suc k) M)
+    ∙ ap (λ (j : ℕ). take i M ++ (take j vs ++ drop (i + j) M)) (sym (add-one k))
+
+-- a turn of a loop that stores v, which is word k of vs; and its end
+pub paste_turn : {S : List ℕ} {v : ℕ} (M : List ℕ) (i : ℕ) (vs : List ℕ) (k : ℕ) → S ≡ paste M i k (take k vs) → v ≡ get_or vs k 0
+    → i + k < length M → k < length vs → set S (i + k) v ≡ paste M i (k + 1) (take (k + 1) vs)
+paste_turn M i vs k s e l m = rw s (rw e (paste_more M i vs k l m))
+
+pub paste_all : (M : List ℕ) (i n : ℕ) (vs : List ℕ) (k : ℕ) → length vs ≡ n → k ≤ n → n ≤ k → paste M i k (take k vs) ≡ paste M i n vs
+paste_all M i n vs k size l m =
+    ap (λ (j : ℕ). paste M i j (take j vs)) {x = k} {y = n} (omega arith) ∙ ap (paste M i n) (take_all n vs (omega arith))
 
 -- one word set, and more pasted behind it
 pub paste_first : (M : List ℕ) (i v : ℕ) (vs : List ℕ) → i < length M → paste (set M i v) (i + 1) (length vs) vs ≡ paste M i (suc (length vs)) (v ∷ vs)

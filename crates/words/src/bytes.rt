@@ -7,8 +7,14 @@ ghost use Rattle.words.specs.Bytes.{byte_bits, word_bytes, bytes_of, word_at};
 // The bytes of a word.
 pub const WORD_BYTES: usize = 4;
 
-// How many values a byte has.
+// How many values a byte has; 1 in each byte of a word but the low one.
 pub const BYTE: u32 = 256;
+
+pub const SECOND: u32 = 256;
+
+pub const THIRD: u32 = 65536;
+
+pub const FOURTH: u32 = 16777216;
 
 // Word k of the bytes.
 #[tactic(auto, unfolding(crate::specs::Bytes::word_at))]

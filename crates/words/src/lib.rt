@@ -1,19 +1,37 @@
-// Words: bits of one, lists of them in place, and their bytes. What several crates use and none owns.
+// Words: bits of one, lists of them in place, their bytes, and numbers of refusals in order. What several crates use and none owns.
 
 #![tactic(auto)]
 
 mod bytes;
 
 ghost use Rattle.std.specs.Prelude.{◌≡◌, ℕ, ◌<◌, ◌≤◌, length, get_or, replicate};
-ghost use Rattle.words.specs.Words.{Says, pick, word_bits, bit_off, bit_on};
+ghost use Rattle.words.specs.Words.{Says, pick, when, or, word_bits, bit_off, bit_on};
 
-pub use bytes::{BYTE, WORD_BYTES, put_word_at, word_at};
+pub use bytes::{BYTE, FOURTH, SECOND, THIRD, WORD_BYTES, put_word_at, word_at};
 
 // The words of a record: a page's, a call's, an answer's.
 pub const RECORD_WORDS: usize = 32;
 
 // The bits of a word.
 pub const WORD_BITS: u32 = 32;
+
+// ---- refusals by number
+// kept: numbers, no enum: what may not change: `refuse` and `either` take any number. The monitor's own refusals are an enum (answer)
+
+// A refusal: its number where the test holds, else 0.
+pub fn refuse(test: bool, code: u32) -> u32
+    ensures { result ≡ when test code }
+{
+    if test { code } else { 0 }
+}
+
+// The first refusal of two.
+#[tactic(auto, using(crate::proofs::Codes::or_first, crate::proofs::Codes::or_second))]
+pub fn either(c: u32, d: u32) -> u32
+    ensures { result ≡ or c d }
+{
+    if c != 0 { c } else { d }
+}
 
 // ---- bits
 
