@@ -14,7 +14,7 @@ use Rattle.answer.specs.declared.Answer.TheVariants.{Done, Value, Pair, Attested
 use Rattle.answer.specs.Refusals.{number, no_such_page, not_free, not_space, wrong_state, slot_taken, no_table, no_such_index, interrupted, faulted}
 
 -- ---- "An answer record is: code (0 when done), values": the numbers of an answer, for each of its cases
--- .. of a call that was done
+-- .. of a call that nothing refuses
 abbrev pub values : Answer → List ℕ
 values Done = 0 ∷ []
 values (Value v) = 0 ∷ v ∷ []
